@@ -1,0 +1,11 @@
+pub mod Fields
+pub mod Baud
+pub mod Receiver
+pub mod Sender
+pub mod Clocked
+pub mod Half
+pub mod Registers
+pub mod Power
+pub mod Pins
+pub mod Valid
+pub mod Calls
