@@ -4,6 +4,7 @@
 use mathlib.Core.Path.{_≡_, ap, sym, _∙_}
 use Prim.Native.Nat.{ℕ}
 use mathlib.Core.Bool.{Bool}
+use Rattle.frame.specs.declared.Format.{Format}
 use Rattle.sci.specs.declared.Character.{Character}
 use Rattle.sci.specs.declared.Rx.{Rx}
 use Rattle.sci.specs.declared.Port.{Port}
@@ -29,9 +30,10 @@ use Rattle.sci.specs.Calls.{Answer, number, answer-of}
 use Rattle.sci.specs.Clocked.{absent, tx-clocked, rx-clocked, due-or, receive-bit-on, finish-clocked, tail-ends-on, shift-clocked, shift-out-on}
 use Rattle.sci.specs.Half.{rx-due-on}
 use Rattle.sci.specs.Pins.{level-number}
+use Rattle.sci.specs.Ready.{Plain, PlacedIn, LoadedBounded, Below, Sendable}
 use Rattle.sci.specs.Receiver.{due-now, arm-receive-on, after-sample, advance-rx-on, completing-on}
 use Rattle.sci.specs.Registers.{fill-tail, load-tail-on}
-use Rattle.sci.specs.Sender.{holds, loaded-on, preloaded-on, start-loaded, try-start-on, finish-tail, advance-tx-on}
+use Rattle.sci.specs.Sender.{holds, loaded-on, preloaded-on, start-loaded, try-start-on, finish-tail, tx-next, send-step-on, advance-tx-on}
 use Rattle.sci.specs.Valid.{due-either, due-by, loaded-valid, tx-valid, rx-valid}
 
 pub number-address : (x : Refusal) (z : ℕ) → x ≡ Address → z ≡ number Address → z ≡ number x
@@ -157,6 +159,48 @@ level-number-released x z h e = e ∙ sym (ap (λ (t : Transmit). level-number t
 pub level-number-level : (x : Transmit) (c0 : Bool) (z : ℕ) → x ≡ Level c0 → z ≡ level-number (Level c0) → z ≡ level-number x
 level-number-level x c0 z h e = e ∙ sym (ap (λ (t : Transmit). level-number t) h)
 
+pub Plain-never : (x : Due) (y0 : Bool) (z : Type 0) → x ≡ Never → z ≡ Plain Never y0 → z ≡ Plain x y0
+Plain-never x y0 z h e = e ∙ sym (ap (λ (t : Due). Plain t y0) h)
+
+pub Plain-at : (x : Due) (c0 : ℕ) (y0 : Bool) (z : Type 0) → x ≡ At c0 → z ≡ Plain (At c0) y0 → z ≡ Plain x y0
+Plain-at x c0 y0 z h e = e ∙ sym (ap (λ (t : Due). Plain t y0) h)
+
+pub PlacedIn-idle : (x : Receiver) (z : Type 0) → x ≡ Idle → z ≡ PlacedIn Idle → z ≡ PlacedIn x
+PlacedIn-idle x z h e = e ∙ sym (ap (λ (t : Receiver). PlacedIn t) h)
+
+pub PlacedIn-busy : (x : Receiver) (c0 : Rx) (z : Type 0) → x ≡ Busy c0 → z ≡ PlacedIn (Busy c0) → z ≡ PlacedIn x
+PlacedIn-busy x c0 z h e = e ∙ sym (ap (λ (t : Receiver). PlacedIn t) h)
+
+pub LoadedBounded-nothing : (x : Loaded) (z : Type 0) → x ≡ Nothing → z ≡ LoadedBounded Nothing → z ≡ LoadedBounded x
+LoadedBounded-nothing x z h e = e ∙ sym (ap (λ (t : Loaded). LoadedBounded t) h)
+
+pub LoadedBounded-next : (x : Loaded) (c0 : Character) (z : Type 0) → x ≡ Next c0 → z ≡ LoadedBounded (Next c0) → z ≡ LoadedBounded x
+LoadedBounded-next x c0 z h e = e ∙ sym (ap (λ (t : Loaded). LoadedBounded t) h)
+
+pub Below-never : (x : Due) (y0 : Format) (y1 : ℕ) (z : Type 0) → x ≡ Never → z ≡ Below Never y0 y1 → z ≡ Below x y0 y1
+Below-never x y0 y1 z h e = e ∙ sym (ap (λ (t : Due). Below t y0 y1) h)
+
+pub Below-at : (x : Due) (c0 : ℕ) (y0 : Format) (y1 : ℕ) (z : Type 0) → x ≡ At c0 → z ≡ Below (At c0) y0 y1 → z ≡ Below x y0 y1
+Below-at x c0 y0 y1 z h e = e ∙ sym (ap (λ (t : Due). Below t y0 y1) h)
+
+pub Sendable-off : (x : Tx) (z : Type 0) → x ≡ Off → z ≡ Sendable Off → z ≡ Sendable x
+Sendable-off x z h e = e ∙ sym (ap (λ (t : Tx). Sendable t) h)
+
+pub Sendable-blocked : (x : Tx) (c0 : Character) (z : Type 0) → x ≡ Blocked c0 → z ≡ Sendable (Blocked c0) → z ≡ Sendable x
+Sendable-blocked x c0 z h e = e ∙ sym (ap (λ (t : Tx). Sendable t) h)
+
+pub Sendable-mark : (x : Tx) (c0 : ℕ) (z : Type 0) → x ≡ Mark c0 → z ≡ Sendable (Mark c0) → z ≡ Sendable x
+Sendable-mark x c0 z h e = e ∙ sym (ap (λ (t : Tx). Sendable t) h)
+
+pub Sendable-start : (x : Tx) (c0 : Character) (c1 : ℕ) (z : Type 0) → x ≡ Start c0 c1 → z ≡ Sendable (Start c0 c1) → z ≡ Sendable x
+Sendable-start x c0 c1 z h e = e ∙ sym (ap (λ (t : Tx). Sendable t) h)
+
+pub Sendable-data : (x : Tx) (c0 : Character) (c1 : ℕ) (c2 : Due) (z : Type 0) → x ≡ Data c0 c1 c2 → z ≡ Sendable (Data c0 c1 c2) → z ≡ Sendable x
+Sendable-data x c0 c1 c2 z h e = e ∙ sym (ap (λ (t : Tx). Sendable t) h)
+
+pub Sendable-tail : (x : Tx) (c0 : Loaded) (c1 : Due) (z : Type 0) → x ≡ Tail c0 c1 → z ≡ Sendable (Tail c0 c1) → z ≡ Sendable x
+Sendable-tail x c0 c1 z h e = e ∙ sym (ap (λ (t : Tx). Sendable t) h)
+
 pub due-now-never : (x : Due) (y0 : ℕ) (z : Bool) → x ≡ Never → z ≡ due-now Never y0 → z ≡ due-now x y0
 due-now-never x y0 z h e = e ∙ sym (ap (λ (t : Due). due-now t y0) h)
 
@@ -262,6 +306,42 @@ finish-tail-nothing x y0 z h e = e ∙ sym (ap (λ (t : Loaded). finish-tail t y
 pub finish-tail-next : (x : Loaded) (c0 : Character) (y0 : Port) (z : Port) → x ≡ Next c0 → z ≡ finish-tail (Next c0) y0 → z ≡ finish-tail x y0
 finish-tail-next x c0 y0 z h e = e ∙ sym (ap (λ (t : Loaded). finish-tail t y0) h)
 
+pub tx-next-off : (x : Tx) (z : Due) → x ≡ Off → z ≡ tx-next Off → z ≡ tx-next x
+tx-next-off x z h e = e ∙ sym (ap (λ (t : Tx). tx-next t) h)
+
+pub tx-next-blocked : (x : Tx) (c0 : Character) (z : Due) → x ≡ Blocked c0 → z ≡ tx-next (Blocked c0) → z ≡ tx-next x
+tx-next-blocked x c0 z h e = e ∙ sym (ap (λ (t : Tx). tx-next t) h)
+
+pub tx-next-mark : (x : Tx) (c0 : ℕ) (z : Due) → x ≡ Mark c0 → z ≡ tx-next (Mark c0) → z ≡ tx-next x
+tx-next-mark x c0 z h e = e ∙ sym (ap (λ (t : Tx). tx-next t) h)
+
+pub tx-next-start : (x : Tx) (c0 : Character) (c1 : ℕ) (z : Due) → x ≡ Start c0 c1 → z ≡ tx-next (Start c0 c1) → z ≡ tx-next x
+tx-next-start x c0 c1 z h e = e ∙ sym (ap (λ (t : Tx). tx-next t) h)
+
+pub tx-next-data : (x : Tx) (c0 : Character) (c1 : ℕ) (c2 : Due) (z : Due) → x ≡ Data c0 c1 c2 → z ≡ tx-next (Data c0 c1 c2) → z ≡ tx-next x
+tx-next-data x c0 c1 c2 z h e = e ∙ sym (ap (λ (t : Tx). tx-next t) h)
+
+pub tx-next-tail : (x : Tx) (c0 : Loaded) (c1 : Due) (z : Due) → x ≡ Tail c0 c1 → z ≡ tx-next (Tail c0 c1) → z ≡ tx-next x
+tx-next-tail x c0 c1 z h e = e ∙ sym (ap (λ (t : Tx). tx-next t) h)
+
+pub send-step-on-off : (x : Tx) (y0 : Port) (z : Port) → x ≡ Off → z ≡ send-step-on Off y0 → z ≡ send-step-on x y0
+send-step-on-off x y0 z h e = e ∙ sym (ap (λ (t : Tx). send-step-on t y0) h)
+
+pub send-step-on-blocked : (x : Tx) (c0 : Character) (y0 : Port) (z : Port) → x ≡ Blocked c0 → z ≡ send-step-on (Blocked c0) y0 → z ≡ send-step-on x y0
+send-step-on-blocked x c0 y0 z h e = e ∙ sym (ap (λ (t : Tx). send-step-on t y0) h)
+
+pub send-step-on-mark : (x : Tx) (c0 : ℕ) (y0 : Port) (z : Port) → x ≡ Mark c0 → z ≡ send-step-on (Mark c0) y0 → z ≡ send-step-on x y0
+send-step-on-mark x c0 y0 z h e = e ∙ sym (ap (λ (t : Tx). send-step-on t y0) h)
+
+pub send-step-on-start : (x : Tx) (c0 : Character) (c1 : ℕ) (y0 : Port) (z : Port) → x ≡ Start c0 c1 → z ≡ send-step-on (Start c0 c1) y0 → z ≡ send-step-on x y0
+send-step-on-start x c0 c1 y0 z h e = e ∙ sym (ap (λ (t : Tx). send-step-on t y0) h)
+
+pub send-step-on-data : (x : Tx) (c0 : Character) (c1 : ℕ) (c2 : Due) (y0 : Port) (z : Port) → x ≡ Data c0 c1 c2 → z ≡ send-step-on (Data c0 c1 c2) y0 → z ≡ send-step-on x y0
+send-step-on-data x c0 c1 c2 y0 z h e = e ∙ sym (ap (λ (t : Tx). send-step-on t y0) h)
+
+pub send-step-on-tail : (x : Tx) (c0 : Loaded) (c1 : Due) (y0 : Port) (z : Port) → x ≡ Tail c0 c1 → z ≡ send-step-on (Tail c0 c1) y0 → z ≡ send-step-on x y0
+send-step-on-tail x c0 c1 y0 z h e = e ∙ sym (ap (λ (t : Tx). send-step-on t y0) h)
+
 pub advance-tx-on-off : (x : Tx) (y0 : Port) (z : Port) → x ≡ Off → z ≡ advance-tx-on Off y0 → z ≡ advance-tx-on x y0
 advance-tx-on-off x y0 z h e = e ∙ sym (ap (λ (t : Tx). advance-tx-on t y0) h)
 
@@ -348,6 +428,16 @@ pub ruleset rx-due-on-clauses = (rx-due-on-idle, rx-due-on-busy)
 
 pub ruleset level-number-clauses = (level-number-released, level-number-level)
 
+pub ruleset Plain-clauses = (Plain-never, Plain-at)
+
+pub ruleset PlacedIn-clauses = (PlacedIn-idle, PlacedIn-busy)
+
+pub ruleset LoadedBounded-clauses = (LoadedBounded-nothing, LoadedBounded-next)
+
+pub ruleset Below-clauses = (Below-never, Below-at)
+
+pub ruleset Sendable-clauses = (Sendable-off, Sendable-blocked, Sendable-mark, Sendable-start, Sendable-data, Sendable-tail)
+
 pub ruleset due-now-clauses = (due-now-never, due-now-at)
 
 pub ruleset arm-receive-on-clauses = (arm-receive-on-idle, arm-receive-on-busy)
@@ -373,6 +463,10 @@ pub ruleset start-loaded-clauses = (start-loaded-nothing, start-loaded-next)
 pub ruleset try-start-on-clauses = (try-start-on-off, try-start-on-blocked, try-start-on-mark, try-start-on-start, try-start-on-data, try-start-on-tail)
 
 pub ruleset finish-tail-clauses = (finish-tail-nothing, finish-tail-next)
+
+pub ruleset tx-next-clauses = (tx-next-off, tx-next-blocked, tx-next-mark, tx-next-start, tx-next-data, tx-next-tail)
+
+pub ruleset send-step-on-clauses = (send-step-on-off, send-step-on-blocked, send-step-on-mark, send-step-on-start, send-step-on-data, send-step-on-tail)
 
 pub ruleset advance-tx-on-clauses = (advance-tx-on-off, advance-tx-on-blocked, advance-tx-on-mark, advance-tx-on-start, advance-tx-on-data, advance-tx-on-tail)
 

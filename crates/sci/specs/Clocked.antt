@@ -19,7 +19,7 @@ use Rattle.sci.specs.declared.Tx.{Tx}
 use Rattle.sci.specs.declared.Tx.the-variants.{Off, Blocked, Mark, Start, Data, Tail}
 use Rattle.sci.specs.Fields.{with-rx, with-tx, with-sck, with-sync-next}
 use Rattle.sci.specs.Baud.{format-of, external}
-use Rattle.sci.specs.Receiver.{input-level, error-free, due-now, complete-receive}
+use Rattle.sci.specs.Receiver.{input-level, error-free, next-position, bit-at, complete-receive}
 use Rattle.sci.specs.Sender.{level, preload, drive, tailed, finish-tail}
 
 abbrev pub absent : Due → Bool
@@ -60,15 +60,6 @@ refresh-sync-clock p =
     (with-clock p Never true))
 
 -- ---- a rising edge: a bit is received, and a clocked tail ends
-abbrev pub bit-at : ℤ → ℕ
-bit-at (pos j) = 2 ^ j
-bit-at (negsuc j) = 0
-
-abbrev pub next-position : ℤ → ℤ
-next-position (pos j) = pos (suc j)
-next-position (negsuc zero) = pos 0
-next-position (negsuc (suc j)) = negsuc j
-
 abbrev pub last-bit : ℤ → Bool
 last-bit (pos j) = eqb j 7
 last-bit (negsuc j) = false

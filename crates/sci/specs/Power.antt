@@ -44,10 +44,13 @@ fresh =
       received = 0;
     }
 
--- a reset keeps line, clock pin and both tallies
+-- what a reset keeps of the port before: line, clock pin and both tallies
+abbrev pub carried : ℕ → Port → Port → Port
+carried spcr old p =
+    with-received (with-transmitted (with-input-clock (with-input (with-spcr p spcr) (old .input)) (old .«input_clock»)) (old .transmitted)) (old .received)
+
 unfoldable pub reset-registers : ℕ → Port → Port
-reset-registers spcr p =
-    with-received (with-transmitted (with-input-clock (with-input (with-spcr fresh spcr) (p .input)) (p .«input_clock»)) (p .transmitted)) (p .received)
+reset-registers spcr p = carried spcr p fresh
 
 -- it comes when the module goes off, or reset mode on, which keeps SPCR; both in one command count as the module's
 unfoldable pub reset : Bool → Bool → Port → Port

@@ -42,10 +42,21 @@ abbrev pub started : Format → ℕ → Rx → Rx
 started now half r =
     record { format = now; value = r .value; position = negsuc zero; parity = r .parity; error = r .error; next = At (half + now .«half_bit» / 2 - 1) }
 
--- the next cell, at position j, is sampled one cell length on
-abbrev pub stepped : ℕ → ℕ → ℕ → Bool → ℕ → Rx → Rx
-stepped half j value parity error r =
-    record { format = r .format; value = value; position = pos j; parity = parity; error = error; next = At (half + r .format .«half_bit») }
+-- the position after a sample
+abbrev pub next-position : ℤ → ℤ
+next-position (pos j) = pos (suc j)
+next-position (negsuc zero) = pos 0
+next-position (negsuc (suc j)) = negsuc j
+
+-- the bit of the received value that a position stands for
+abbrev pub bit-at : ℤ → ℕ
+bit-at (pos j) = 2 ^ j
+bit-at (negsuc j) = 0
+
+-- on from position z: the next cell is sampled one cell length later
+abbrev pub stepped : ℕ → ℤ → ℕ → Bool → ℕ → Rx → Rx
+stepped half z value parity error r =
+    record { format = r .format; value = value; position = next-position z; parity = parity; error = error; next = At (half + r .format .«half_bit») }
 
 -- the first stop cell; framing error if it is not at mark
 abbrev pub stopped : Bool → Rx → Rx
@@ -56,12 +67,12 @@ stopped high r =
 unfoldable pub sample-at : ℤ → Format → Bool → ℕ → Rx → Sampled
 sample-at (negsuc (suc (suc n))) now high half r = Dropped
 sample-at (negsuc (suc zero)) now high half r = cond (high || now .synchronous) Dropped (Onward (started now half r))
-sample-at (negsuc zero) now high half r = cond high Dropped (Onward (stepped half 0 (r .value) (r .parity) (r .error) r))
+sample-at (negsuc zero) now high half r = cond high Dropped (Onward (stepped half (negsuc zero) (r .value) (r .parity) (r .error) r))
 sample-at (pos j) now high half r =
     cond (ltb j (r .format .«data»))
-    (Onward (stepped half (suc j) (cond high (bitOr (r .value) (2 ^ j)) (r .value)) (differ (r .parity) high) (r .error) r))
+    (Onward (stepped half (pos j) (cond high (bitOr (r .value) (bit-at (pos j))) (r .value)) (differ (r .parity) high) (r .error) r))
     (cond (eqb j (r .format .«data») && r .format .parity)
-    (Onward (stepped half (suc j) (r .value) (r .parity) (cond (differ high (differ (r .parity) (r .format .odd))) (bitOr (r .error) 8) (r .error)) r))
+    (Onward (stepped half (pos j) (r .value) (r .parity) (cond (differ high (differ (r .parity) (r .format .odd))) (bitOr (r .error) 8) (r .error)) r))
     (Whole (stopped high r)))
 
 abbrev pub sample : Format → Bool → ℕ → Rx → Sampled

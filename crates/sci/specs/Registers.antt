@@ -75,13 +75,16 @@ abbrev pub cleared : ℕ → Port → ℕ
 cleared v p = bitAnd (p .ssr) (255 - bitAnd (bitAnd (p .seen) (255 - v)) 0xf8)
 
 -- TE off forces TDRE. With TE on and nothing held, a cleared TDRE takes TDR into the holding place and clears TEND
-unfoldable pub status-write : ℕ → Port → Port
-status-write v p =
+unfoldable pub status-with : ℕ → ℕ → Port → Port
+status-with ssr v p =
     cond (has (p .scr) 0x20)
-    (cond (not (has (cleared v p) 0x80) && not (holds (p .holding)))
-    (with-holding (with-seen (with-ssr p (bitAnd (cleared v p) 0xfb)) (bitAnd (p .seen) v)) (Byte (p .tdr)))
-    (with-seen (with-ssr p (cleared v p)) (bitAnd (p .seen) v)))
-    (with-seen (with-ssr p (bitOr (cleared v p) 0x80)) (bitAnd (p .seen) v))
+    (cond (not (has ssr 0x80) && not (holds (p .holding)))
+    (with-holding (with-seen (with-ssr p (bitAnd ssr 0xfb)) (bitAnd (p .seen) v)) (Byte (p .tdr)))
+    (with-seen (with-ssr p ssr) (bitAnd (p .seen) v)))
+    (with-seen (with-ssr p (bitOr ssr 0x80)) (bitAnd (p .seen) v))
+
+unfoldable pub status-write : ℕ → Port → Port
+status-write v p = status-with (cleared v p) v p
 
 unfoldable pub stored : ℕ → ℕ → Port → Port
 stored a v p =
@@ -96,7 +99,7 @@ stored a v p =
 
 -- the external clock is chosen: the phase is the clock pin's, and no edge is planned
 unfoldable pub connect : Bool → Port → Port
-connect was p = cond (not was && external p) (with-high (with-sync-next p Never) (p .«input_clock»)) p
+connect was p = cond (not was && external p) (with-sync-next (with-high p (p .«input_clock»)) Never) p
 
 -- a tail with no next word takes what the holding place has
 abbrev pub fill-tail : Loaded → Due → Port → Port

@@ -104,14 +104,27 @@ next-cell ch cell p =
     (tailed (preload (drive p (level ch cell))) (At (p .half + ch .format .stops * ch .format .«half_bit»)))
     (with-tx (drive p (level ch cell)) (Data ch cell (At (p .half + ch .format .«half_bit»))))
 
+-- the half on which the sender acts next
+abbrev pub tx-next : Tx → Due
+tx-next Off = Never
+tx-next (Blocked ch) = Never
+tx-next (Mark next) = At next
+tx-next (Start ch next) = At next
+tx-next (Data ch cell next) = next
+tx-next (Tail l next) = next
+
+-- what it does then
+abbrev pub send-step-on : Tx → Port → Port
+send-step-on Off p = p
+send-step-on (Blocked ch) p = p
+send-step-on (Mark next) p = try-start (with-tx p Off)
+send-step-on (Start ch next) p = begin p ch
+send-step-on (Data ch cell next) p = next-cell ch (suc cell) p
+send-step-on (Tail l next) p = finish-tail l p
+
 -- the sender's step, at the half on which it is due
 abbrev pub advance-tx-on : Tx → Port → Port
-advance-tx-on Off p = p
-advance-tx-on (Blocked ch) p = p
-advance-tx-on (Mark next) p = cond (eqb next (p .half)) (try-start (with-tx p Off)) p
-advance-tx-on (Start ch next) p = cond (eqb next (p .half)) (begin p ch) p
-advance-tx-on (Data ch cell next) p = cond (due-now next (p .half)) (next-cell ch (suc cell) p) p
-advance-tx-on (Tail l next) p = cond (due-now next (p .half)) (finish-tail l p) p
+advance-tx-on t p = cond (due-now (tx-next t) (p .half)) (send-step-on t p) p
 
 unfoldable pub advance-tx : Port → Port
 advance-tx p = advance-tx-on (p .tx) p

@@ -1,0 +1,42 @@
+-- What the proofs of the direct calls cite: an accepted answer put together from what calls gave, and what the tests that a call has passed say.
+-- Assumes nothing.
+use mathlib.Core.Path.{_≡_, sym, ap, ap₂, _∙_}
+use mathlib.Core.Bool.{Bool, true, false, _&&_}
+use Prim.Native.Nat.{ℕ, _+_, _≤_, _<_}
+use native.Mathlib.Omega.{arith}
+use lib.Dec.{leb}
+use mir.Syntax.{w8, w32}
+use mir.Val.{Fits}
+use borrow.Author.Tests.{leb-true}
+use Rattle.frame.proofs.Truth.{and-right}
+use Rattle.sci.specs.declared.Port.{Port}
+use Rattle.sci.specs.Fields.{with-input-clock}
+use Rattle.sci.specs.Baud.{edge-counts}
+use Rattle.sci.specs.Pins.{pins-change, receive-input, external-edge}
+use Rattle.sci.specs.Valid.{limit, valid}
+use Rattle.sci.specs.Calls.{Answer, done}
+use Rattle.sci.specs.Ready.{Ready}
+use Rattle.sci.proofs.Checked.{flag-ready, edge-below}
+
+pub done-eq : (z : Answer) (v w : ℕ) (p q : Port) → z ≡ done v p → v ≡ w → p ≡ q → z ≡ done w q
+done-eq z v w p q e h k = e ∙ ap₂ done h k
+
+-- a value that passed test 2 is a byte
+pub value-fits : (a v : ℕ) → (leb a 65535 && leb v 255) ≡ true → Fits w8 v
+value-fits a v e = record { fits = omega (arith, leb-true v 255 (and-right (leb a 65535) (leb v 255) e)) }
+
+-- the half count that test 4 looks at
+pub sum-fits : (r : Bool) (p : Port) (n : ℕ) → r ≡ valid p → r ≡ true → n ≤ 65535 → Fits w32 (p .half + n)
+sum-fits r p n e t h = record { fits = omega (arith, flag-ready r p e t .half≤) }
+
+pub flag-half : (r : Bool) (p : Port) → r ≡ valid p → r ≡ true → p .half ≤ limit
+flag-half r p e t = flag-ready r p e t .half≤
+
+-- an edge that passed test 4 has room
+pub edge-room : (f g : Bool) (clock line : Bool) (p : Port) → f ≡ (pins-change clock line p && (edge-counts clock p && leb limit (p .half))) → f ≡ false → g ≡ pins-change clock line p
+    → g ≡ true → edge-counts clock p ≡ true → p .half < limit
+edge-room f g clock line p ef ff eg tg e = edge-below clock line p (sym eg ∙ tg) (sym ef ∙ ff) e
+
+-- clock pin and line set, put together from what calls gave
+pub pins-of : (z r p : Port) (clock line : Bool) → z ≡ external-edge clock (with-input-clock r clock) → r ≡ receive-input line p → z ≡ external-edge clock (with-input-clock (receive-input line p) clock)
+pins-of z r p clock line e h = e ∙ ap (λ (q : Port). external-edge clock (with-input-clock q clock)) h

@@ -1,0 +1,12 @@
+use borrow.Author.Needs.{needs}
+use Rattle.frame.proofs.Laws.{one-shl}
+use Rattle.sci.proofs.Steps.{bit-test}
+use Rattle.sci.proofs.Character.level.Statement.{statement}
+use Rattle.sci.proofs.Character.level.Tie as tie
+
+pub level-spec : {M : Type 1} → statement M
+level-spec =
+    tie.close
+    (tie.spec
+    (λ c. search needs)
+    (λ c. search (bit-test, needs)))

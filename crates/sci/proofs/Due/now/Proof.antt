@@ -1,0 +1,15 @@
+use borrow.Author.Needs.{needs}
+use Rattle.sci.proofs.Clauses.{due-now-clauses}
+use Rattle.sci.proofs.Under.{under}
+use Rattle.sci.proofs.Steps.{step, held, bools}
+use Rattle.sci.proofs.Due.now.Statement.{statement}
+use Rattle.sci.proofs.Due.now.Tie as tie
+
+pub now-spec : {M : Type 1} → statement M
+now-spec =
+    tie.close
+    (tie.spec
+    (λ c. search needs)
+    (λ c. search needs)
+    (λ c. search needs)
+    (λ c. search (due-now-clauses, under, step) depth 10))

@@ -1,0 +1,15 @@
+use borrow.Author.Needs.{needs}
+use Rattle.sci.proofs.Clauses.{due-or-clauses}
+use Rattle.sci.proofs.Under.{under}
+use Rattle.sci.proofs.Steps.{step, held, bools}
+use Rattle.sci.proofs.Due.or_at.Statement.{statement}
+use Rattle.sci.proofs.Due.or_at.Tie as tie
+
+pub or-at-spec : {M : Type 1} → statement M
+or-at-spec =
+    tie.close
+    (tie.spec
+    (λ c. search needs)
+    (λ c. search needs)
+    (λ c. search (due-or-clauses, under, step) depth 10)
+    (λ c. search (due-or-clauses, under, step) depth 10))

@@ -1,0 +1,670 @@
+-- The steps keep a port ready: its half count within the limit, a received word in its place, formats and a sent word's cell within the frame's bounds.
+-- A law `keep-f` is about the step f at a half n; `f-ready` about a call's result, known by the equation that its contract gives.
+-- Assumes nothing.
+use mathlib.Core.Path.{_≡_, refl, sym, ap, _∙_, subst, subst⁻¹}
+use mathlib.Core.Bool.{Bool, true, false, not, cond, _&&_, _||_, false≢true}
+use Prim.Native.Nat.{ℕ, zero, suc, _+_, _*_, _≤_, _<_, zero-le}
+use native.Mathlib.Numerals.{add-one}
+use native.Mathlib.Omega.{arith}
+use borrow.Author.Needs.{needs}
+use borrow.Author.Tests.{eqb-true, eqb-false, leb-true, ltb-true, le-leb}
+use lib.Dec.{eqb, leb, ltb, lit≤}
+use lib.Arith.{lt-of-le-ne}
+use lib.IntN.{ℤ, pos, negsuc}
+use Rattle.frame.specs.declared.Format.{Format}
+use Rattle.frame.specs.Frame.{has, differ, stop, one-if}
+use Rattle.frame.proofs.Truth.{and-left, and-right}
+use Rattle.frame.proofs.Words.{format-good}
+use Rattle.sci.specs.declared.Port.{Port}
+use Rattle.sci.specs.declared.Character.{Character}
+use Rattle.sci.specs.declared.Due.{Due}
+use Rattle.sci.specs.declared.Due.the-variants.{Never, At}
+use Rattle.sci.specs.declared.Holding.{Holding}
+use Rattle.sci.specs.declared.Holding.the-variants.{Empty, Byte}
+use Rattle.sci.specs.declared.Loaded.{Loaded}
+use Rattle.sci.specs.declared.Loaded.the-variants.{Nothing, Next}
+use Rattle.sci.specs.declared.Rx.{Rx}
+use Rattle.sci.specs.declared.Receiver.{Receiver}
+use Rattle.sci.specs.declared.Receiver.the-variants.{Idle, Busy}
+use Rattle.sci.specs.declared.Sampled.{Sampled}
+use Rattle.sci.specs.declared.Sampled.the-variants.{Dropped, Onward, Whole}
+use Rattle.sci.specs.declared.Tx.{Tx}
+use Rattle.sci.specs.declared.Tx.the-variants.{Off, Blocked, Mark, Start, Data, Tail}
+use Rattle.sci.specs.Fields.{with-tx, with-rx, with-input, with-input-clock}
+use Rattle.sci.specs.Baud.{format-of, external, counted, edge-counted, edge-counts, next-fall, boundary}
+use Rattle.sci.specs.Receiver.{next-position, input-level, error-free, due-now, armed, sample-at, sample, arms, arm-receive-on, arm-receive, complete-receive, after-sample, advance-rx-on, advance-rx}
+use Rattle.sci.specs.Sender.{level, holds, loaded-on, preloaded-on, loaded, preloaded, preload, drive, begin, start-at, start-loaded, try-start-on, try-start, one-sent, finish-tail, tailed, next-cell, tx-next, send-step-on, advance-tx}
+use Rattle.sci.specs.Clocked.{with-clock, refresh-sync-clock, last-bit, bit-taken, take-bit, clocked-word, receive-bit-on, receive-bit, tail-ends-on, tail-ends, bit-out, shift-out-on, shift-out, sync-edge}
+use Rattle.sci.specs.Half.{process-basic, rx-due-on, sync, clocked-edge, advance, half-step, halves, inside, uncounted}
+use Rattle.sci.specs.Registers.{scr-tx, scr-rx, write-scr, write-tdr, status-with, status-write, stored, connect, load-tail-on, load-tail, settled, write}
+use Rattle.sci.specs.Power.{fresh, reset-registers, reset, with-power, set-power}
+use Rattle.sci.specs.Pins.{receive-input, external-edge}
+use Rattle.sci.specs.Valid.{limit, position-valid}
+use Rattle.sci.specs.Ready.{Bounded, Plain, Placed, PlacedIn, LoadedBounded, Sendable, Ready}
+use Rattle.sci.proofs.Steps.{valid-bounded}
+
+-- both results of a choice, each where it is chosen
+pub either : {A : Type 0} (K : A → Type 0) (b : Bool) {x y : A} → (b ≡ true → K x) → (b ≡ false → K y) → K (cond b x y)
+either K true f g = f refl
+either K false f g = g refl
+
+pub both : {A : Type 0} (K : A → Type 0) (b : Bool) {x y : A} → K x → K y → K (cond b x y)
+both K b f g = either K b (λ _. f) (λ _. g)
+
+-- the same as a rule for `search`, which then builds the record of each result
+keep-cond : (n : ℕ) (b : Bool) (x y : Port) → Ready n x → Ready n y → Ready n (cond b x y)
+keep-cond n b x y h k = both (Ready n) b h k
+
+-- registers give no format out of bounds
+pub bounded-now : (p : Port) → Bounded (format-of p)
+bounded-now p = valid-bounded (format-of p) (format-good (p .smr) (p .semr))
+
+-- ---- the parts
+module _ {n : ℕ} {p : Port} (r : Ready n p) where
+  pub keep-tx : (t : Tx) → Sendable t → Ready n (with-tx p t)
+  keep-tx t s = record { half≡ = r .half≡; half≤ = r .half≤; placed = r .placed; sendable = s }
+
+  pub keep-rx : (x : Receiver) → PlacedIn x → Ready n (with-rx p x)
+  keep-rx x s = record { half≡ = r .half≡; half≤ = r .half≤; placed = s; sendable = r .sendable }
+
+  -- a port with the same half count, receiver and sender
+  pub keep-same : (q : Port) → q .half ≡ p .half → q .rx ≡ p .rx → q .tx ≡ p .tx → Ready n q
+  keep-same q h x t =
+      record {
+        half≡ = h ∙ r .half≡;
+        half≤ = subst⁻¹ (λ (m : ℕ). m ≤ limit) h (r .half≤);
+        placed = subst⁻¹ PlacedIn x (r .placed);
+        sendable = subst⁻¹ Sendable t (r .sendable);
+      }
+
+  pub keep-drive : (high : Bool) → Ready n (drive p high)
+  keep-drive high = keep-same (drive p high) refl refl refl
+
+  pub keep-sent : Ready n (one-sent p)
+  keep-sent = record { half≡ = r .half≡; half≤ = r .half≤; placed = r .placed; sendable = tt }
+
+  pub keep-preloaded : Ready n (preloaded p)
+  unfolding preloaded
+  keep-preloaded = go (p .holding) where
+    go : (h : Holding) → Ready n (preloaded-on h p)
+    go Empty = keep-same _ refl refl refl
+    go (Byte v) = keep-same _ refl refl refl
+
+pub loaded-bounded : (p : Port) → LoadedBounded (loaded p)
+unfolding loaded
+loaded-bounded p = go (p .holding) where
+  go : (h : Holding) → LoadedBounded (loaded-on h p)
+  go Empty = tt
+  go (Byte v) = bounded-now p
+
+-- ---- the sender
+module _ {n : ℕ} {p : Port} (r : Ready n p) where
+  pub keep-begin : (k : Character) → Bounded (k .format) → Ready n (begin p k)
+  unfolding begin
+  keep-begin k f =
+      both (Ready n) (k .format .synchronous) (keep-tx r (Data k 0 Never) (f, lit≤ tt))
+      (keep-tx (keep-drive r (level k 0)) (Data k 0 (At (p .half + k .format .«half_bit»))) (f, omega arith))
+
+  pub keep-start-at : (k : Character) (next : ℕ) → Bounded (k .format) → Ready n (start-at p k next)
+  unfolding start-at
+  keep-start-at k next f = both (Ready n) (eqb next (p .half)) (keep-begin k f) (keep-tx r (Start k next) f)
+
+  pub keep-start-loaded : (l : Loaded) → LoadedBounded l → Ready n (start-loaded l p)
+  keep-start-loaded Nothing f = r
+  keep-start-loaded (Next k) f =
+      both (Ready n) (k .format .synchronous) (keep-begin k f) (keep-start-at k (boundary p (k .format .«half_bit»)) f)
+
+  -- a word's last cells, with whatever the holding place has
+  pub keep-tailed : (next : Due) → Ready n (tailed (preload p) next)
+  keep-tailed next = keep-tx (keep-preloaded r) (Tail (loaded p) next) (loaded-bounded p)
+
+module _ {n : ℕ} {p : Port} (r : Ready n p) where
+  pub keep-try-start : Ready n (try-start p)
+  unfolding try-start
+  keep-try-start = go (p .tx) (r .sendable) where
+    go : (t : Tx) → Sendable t → Ready n (try-start-on t p)
+    go Off s =
+        both (Ready n) (has (p .scr) 0x20 && (holds (p .holding) && (not (format-of p .synchronous) || error-free p)))
+        (keep-start-loaded (keep-preloaded r) (loaded p) (loaded-bounded p)) r
+    go (Blocked k) s = both (Ready n) (error-free p) (keep-begin r k s) r
+    go (Mark next) s = r
+    go (Start k next) s = r
+    go (Data k cell next) s = r
+    go (Tail l next) s = r
+
+  -- the cell after one below the stop cell: the stop cell, or below it
+  pub keep-next-cell : (k : Character) (cell : ℕ) → Bounded (k .format) → cell ≤ stop (k .format) → Ready n (next-cell k cell p)
+  unfolding next-cell
+  keep-next-cell k cell f h =
+      either (Ready n) (eqb cell (stop (k .format)))
+      (λ _. keep-tailed (keep-drive r (level k cell)) (At (p .half + k .format .stops * k .format .«half_bit»)))
+      (λ e. keep-tx (keep-drive r (level k cell)) (Data k cell (At (p .half + k .format .«half_bit»)))
+      (f, lt-of-le-ne h (eqb-false cell (stop (k .format)) e)))
+
+module _ {n : ℕ} {p : Port} (r : Ready n p) where
+  pub keep-finish-tail : (l : Loaded) → LoadedBounded l → Ready n (finish-tail l p)
+  keep-finish-tail Nothing f = keep-try-start (keep-sent r)
+  keep-finish-tail (Next k) f =
+      both (Ready n) (k .format .synchronous && not (error-free p)) (keep-tx (keep-sent r) (Blocked k) f) (keep-begin (keep-sent r) k f)
+
+  -- due: so a word in data is a start-stop one, below its stop cell
+  keep-due : (t : Tx) → Sendable t → due-now (tx-next t) (p .half) ≡ true → Ready n (send-step-on t p)
+  keep-due Off s e = r
+  keep-due (Blocked k) s e = r
+  keep-due (Mark next) s e = keep-try-start (keep-tx r Off tt)
+  keep-due (Start k next) s e = keep-begin r k s
+  keep-due (Data k cell Never) s e = absurd (false≢true e)
+  keep-due (Data k cell (At m)) s e = keep-next-cell r k (suc cell) (s .0) (s .1)
+  keep-due (Tail l next) s e = keep-finish-tail l s
+
+  pub keep-send-step : due-now (tx-next (p .tx)) (p .half) ≡ true → Ready n (send-step-on (p .tx) p)
+  keep-send-step e = keep-due (p .tx) (r .sendable) e
+
+  pub keep-advance-tx : Ready n (advance-tx p)
+  unfolding advance-tx
+  keep-advance-tx = either (Ready n) (due-now (tx-next (p .tx)) (p .half)) (λ e. keep-send-step e) (λ _. r)
+
+-- ---- the receiver
+or-right : (a b : Bool) → (a || b) ≡ false → b ≡ false
+or-right true b e = absurd (false≢true (sym e))
+or-right false b e = e
+
+-- the places from 0 on
+place-cell : (f : Format) (j : ℕ) → f .synchronous ≡ false → j ≤ f .«data» + one-if (f .parity) → position-valid (pos j) f ≡ true
+place-cell f j s h =
+    ap (λ (b : Bool). leb j (cond b 7 (f .«data» + one-if (f .parity)))) s ∙ le-leb j (f .«data» + one-if (f .parity)) h
+
+place-bit : (f : Format) (j : ℕ) → f .synchronous ≡ true → j ≤ 7 → position-valid (pos j) f ≡ true
+place-bit f j s h = ap (λ (b : Bool). leb j (cond b 7 (f .«data» + one-if (f .parity)))) s ∙ le-leb j 7 h
+
+-- the word that a sample leaves in the receiver, if any, is in its place
+abbrev pub PlacedBy : Sampled → Type 0
+PlacedBy Dropped = Unit
+PlacedBy (Onward r) = Placed r
+PlacedBy (Whole r) = Unit
+
+sampled-at : (z : ℤ) (now : Format) (high : Bool) (half : ℕ) (r : Rx) → Bounded now → Bounded (r .format) → r .format .synchronous ≡ false
+    → PlacedBy (sample-at z now high half r)
+unfolding sample-at
+sampled-at (negsuc (suc (suc n))) now high half r b f s = tt
+sampled-at (negsuc (suc zero)) now high half r b f s =
+    either PlacedBy (high || now .synchronous) (λ _. tt)
+    (λ e. record { bounded = b; place = ap not (or-right high (now .synchronous) e); plain = or-right high (now .synchronous) e })
+sampled-at (negsuc zero) now high half r b f s =
+    both PlacedBy high tt (record { bounded = f; place = place-cell (r .format) 0 s zero-le; plain = s })
+sampled-at (pos j) now high half r b f s =
+    let d : ℕ = r .format .«data» in
+    let c : Bool = r .format .parity in
+    either PlacedBy (ltb j d)
+    (λ e. record { bounded = f; place = place-cell (r .format) (suc j) s (omega (arith, ltb-true j d e)); plain = s })
+    (λ _. either PlacedBy (eqb j d && c)
+    (λ e. record {
+      bounded = f;
+      place = place-cell (r .format) (suc j) s (omega (arith, eqb-true j d (and-left (eqb j d) c e), ap one-if (and-right (eqb j d) c e)));
+      plain = s;
+    })
+    (λ _. tt))
+
+pub sample-placed : (now : Format) (high : Bool) (half : ℕ) (r : Rx) → Bounded now → Placed r → r .format .synchronous ≡ false
+    → PlacedBy (sample now high half r)
+sample-placed now high half r b h s = sampled-at (r .position) now high half r b (h .bounded) s
+
+module _ {n : ℕ} {p : Port} (r : Ready n p) where
+  pub keep-complete-receive : (x : Rx) → Ready n (complete-receive p x)
+  unfolding complete-receive
+  keep-complete-receive x = search (keep-cond, needs) depth 10
+
+  pub keep-arm-receive : Ready n (arm-receive p)
+  unfolding arm-receive
+  keep-arm-receive = go (p .rx) where
+    plain : arms p ≡ true → not (format-of p .synchronous) ≡ true
+    plain e =
+        and-left (not (format-of p .synchronous)) (not (input-level p))
+        (and-right (error-free p) (not (format-of p .synchronous) && not (input-level p))
+        (and-right (has (p .scr) 0x10) (error-free p && (not (format-of p .synchronous) && not (input-level p))) e))
+
+    not-true : (b : Bool) → not b ≡ true → b ≡ false
+    not-true true e = absurd (false≢true e)
+    not-true false e = refl
+
+    go : (x : Receiver) → Ready n (arm-receive-on x p)
+    go Idle =
+        either (Ready n) (arms p)
+        (λ e. keep-rx r (Busy (armed (format-of p) (next-fall p)))
+        (record { bounded = bounded-now p; place = plain e; plain = not-true (format-of p .synchronous) (plain e) }))
+        (λ _. r)
+    go (Busy x) = r
+
+module _ {n : ℕ} {p : Port} (r : Ready n p) where
+  pub keep-after-sample : (s : Sampled) → PlacedBy s → Ready n (after-sample s p)
+  keep-after-sample Dropped h = keep-rx r Idle tt
+  keep-after-sample (Onward x) h = keep-rx r (Busy x) h
+  keep-after-sample (Whole x) h = keep-complete-receive (keep-rx r Idle tt) x
+
+  -- only a start-stop word has a due half
+  due-start-stop : (x : Rx) (d : Due) → Plain d (x .format .synchronous) → due-now d (p .half) ≡ true → x .format .synchronous ≡ false
+  due-start-stop x Never h e = absurd (false≢true e)
+  due-start-stop x (At m) h e = h
+
+  pub keep-advance-rx : Ready n (advance-rx p)
+  unfolding advance-rx
+  keep-advance-rx = go (p .rx) (r .placed) where
+    go : (x : Receiver) → PlacedIn x → Ready n (advance-rx-on x p)
+    go Idle h = r
+    go (Busy x) h =
+        either (Ready n) (due-now (x .next) (p .half))
+        (λ e. keep-after-sample (sample (format-of p) (input-level p) (p .half) x)
+        (sample-placed (format-of p) (input-level p) (p .half) x (bounded-now p) h (due-start-stop x (x .next) (h .plain) e)))
+        (λ _. r)
+
+-- ---- clocked form
+-- the bit after one that is not the last
+next-bit : (z : ℤ) (f : Format) → f .synchronous ≡ true → position-valid z f ≡ true → last-bit z ≡ false → position-valid (next-position z) f ≡ true
+next-bit (pos j) f s e l =
+    let up : j ≤ 7 = leb-true j 7 (ap (λ (b : Bool). leb j (cond b 7 (f .«data» + one-if (f .parity)))) (sym s) ∙ e) in
+    place-bit f (suc j) s (lt-of-le-ne up (eqb-false j 7 l))
+next-bit (negsuc zero) f s e l = absurd (false≢true (ap not (sym s) ∙ e))
+next-bit (negsuc (suc zero)) f s e l = absurd (false≢true (ap not (sym s) ∙ e))
+next-bit (negsuc (suc (suc m))) f s e l = absurd (false≢true e)
+
+clocked-placed : (f : Format) → Bounded f → f .synchronous ≡ true → Placed (clocked-word f)
+clocked-placed f b s = record { bounded = b; place = place-bit f 0 s zero-le; plain = tt }
+
+module _ {n : ℕ} {p : Port} (r : Ready n p) where
+  pub keep-refresh-sync-clock : Ready n (refresh-sync-clock p)
+  unfolding refresh-sync-clock
+  keep-refresh-sync-clock = search (keep-cond, needs) depth 10
+
+  pub keep-clock : (next : Due) (high : Bool) → Ready n (with-clock p next high)
+  keep-clock next high = keep-same r (with-clock p next high) refl refl refl
+
+  pub keep-take-bit : (x : Rx) → Placed x → x .format .synchronous ≡ true → Ready n (take-bit p x)
+  unfolding take-bit
+  keep-take-bit x h s =
+      either (Ready n) (last-bit (x .position)) (λ _. keep-complete-receive (keep-rx r Idle tt) (bit-taken (input-level p) x))
+      (λ e. keep-rx r (Busy (bit-taken (input-level p) x))
+      (record { bounded = h .bounded; place = next-bit (x .position) (x .format) s (h .place) e; plain = h .plain }))
+
+  pub keep-receive-bit : Ready n (receive-bit p)
+  unfolding receive-bit
+  keep-receive-bit = both (Ready n) (has (p .scr) 0x10 && error-free p) (go (p .rx) (r .placed)) r where
+    go : (x : Receiver) → PlacedIn x → Ready n (receive-bit-on x p)
+    go Idle h =
+        either (Ready n) (format-of p .synchronous)
+        (λ s. keep-take-bit (clocked-word (format-of p)) (clocked-placed (format-of p) (bounded-now p) s) s)
+        (λ _. r)
+    go (Busy x) h = either (Ready n) (x .format .synchronous) (λ s. keep-take-bit x h s) (λ _. r)
+
+  pub keep-tail-ends : Ready n (tail-ends p)
+  unfolding tail-ends
+  keep-tail-ends = go (p .tx) (r .sendable) where
+    go : (t : Tx) → Sendable t → Ready n (tail-ends-on t p)
+    go Off s = r
+    go (Blocked k) s = r
+    go (Mark next) s = r
+    go (Start k next) s = r
+    go (Data k cell next) s = r
+    go (Tail l Never) s = keep-finish-tail r l s
+    go (Tail l (At m)) s = r
+
+  pub keep-bit-out : (k : Character) (cell : ℕ) → Bounded (k .format) → cell ≤ 7 → Ready n (bit-out k cell p)
+  unfolding bit-out
+  keep-bit-out k cell f h =
+      either (Ready n) (eqb cell 7) (λ _. keep-tailed (keep-drive r (level k cell)) Never)
+      (λ e. keep-tx (keep-drive r (level k cell)) (Data k (suc cell) Never) (f, lt-of-le-ne h (eqb-false cell 7 e)))
+
+  pub keep-shift-out : Ready n (shift-out p)
+  unfolding shift-out
+  keep-shift-out = go (p .tx) (r .sendable) where
+    go : (t : Tx) → Sendable t → Ready n (shift-out-on t p)
+    go Off s = r
+    go (Blocked k) s = r
+    go (Mark next) s = r
+    go (Start k next) s = r
+    go (Data k cell Never) s = keep-bit-out k cell (s .0) (s .1)
+    go (Data k cell (At m)) s = r
+    go (Tail l next) s = r
+
+module _ {n : ℕ} {p : Port} (r : Ready n p) where
+  pub keep-sync-edge : (high : Bool) → Ready n (sync-edge high p)
+  unfolding sync-edge
+  keep-sync-edge high = both (Ready n) high (keep-tail-ends (keep-receive-bit r)) (keep-shift-out r)
+
+-- ---- one half
+module _ {n : ℕ} {p : Port} (r : Ready n p) where
+  pub keep-process-basic : Ready n (process-basic p)
+  unfolding process-basic
+  keep-process-basic = keep-arm-receive (keep-advance-rx (keep-advance-tx r))
+
+  pub keep-clocked-edge : Ready n (clocked-edge p)
+  unfolding clocked-edge
+  keep-clocked-edge =
+      both (Ready n) (due-now (p .«sync_next») (p .half)) (keep-sync-edge (keep-clock r Never (not (p .sck))) (not (p .sck))) r
+
+  -- a counted edge, also one of the internal clock, at the next half
+  pub keep-edge-counted : (high : Bool) → n < limit → Ready (suc n) (edge-counted p high)
+  keep-edge-counted high h =
+      record { half≡ = ap suc (r .half≡); half≤ = subst⁻¹ (λ (m : ℕ). suc m ≤ limit) (r .half≡) h; placed = r .placed; sendable = r .sendable }
+
+module _ {n : ℕ} {p : Port} (r : Ready n p) where
+  pub keep-counted : n < limit → Ready (suc n) (counted p)
+  keep-counted h = keep-edge-counted r (not (p .high)) h
+
+  pub keep-sync : Ready n (sync p)
+  unfolding sync
+  keep-sync = both (Ready n) (rx-due-on (p .rx) (p .half)) (keep-refresh-sync-clock (keep-process-basic r)) r
+
+  pub keep-advance : Ready n (advance p)
+  unfolding advance
+  keep-advance = keep-refresh-sync-clock (keep-clocked-edge (keep-process-basic r))
+
+module _ {n : ℕ} {p : Port} (r : Ready n p) (h : n < limit) where
+  pub keep-half-step : Ready (suc n) (half-step p)
+  unfolding half-step
+  keep-half-step = keep-advance (keep-sync (keep-counted r h))
+
+pub keep-halves : (k : ℕ) {n : ℕ} {p : Port} → Ready n p → n + k ≤ limit → Ready (n + k) (halves k p)
+unfolding halves
+keep-halves zero {n} {p} r h = let e : n ≡ n + 0 = omega arith in subst (λ (m : ℕ). Ready m p) e r
+keep-halves (suc k) {n} {p} r h =
+    let e : suc n + k ≡ n + suc k = omega arith in
+    subst (λ (m : ℕ). Ready m (halves k (half-step p))) e (keep-halves k (keep-half-step r (omega arith)) (omega arith))
+
+-- the half that a loop adds comes last, the definition's first
+pub halves-last : (k : ℕ) (p : Port) → halves (suc k) p ≡ half-step (halves k p)
+unfolding halves
+halves-last zero p = refl
+halves-last (suc k) p = halves-last k (half-step p)
+
+-- ---- the registers
+module _ {n : ℕ} {p : Port} (r : Ready n p) where
+  pub keep-scr-tx : (was : Bool) (v : ℕ) → Ready n (scr-tx was v p)
+  keep-scr-tx was v = search (keep-cond, needs) depth 10
+
+  pub keep-scr-rx : (v : ℕ) → Ready n (scr-rx v p)
+  keep-scr-rx v = search (keep-cond, needs) depth 10
+
+  pub keep-write-tdr : (v : ℕ) → Ready n (write-tdr v p)
+  unfolding write-tdr
+  keep-write-tdr v = search (keep-cond, needs) depth 10
+
+  pub keep-status-write : (v : ℕ) → Ready n (status-write v p)
+  unfolding status-write status-with
+  keep-status-write v = search (keep-cond, needs) depth 10
+
+  pub keep-connect : (was : Bool) → Ready n (connect was p)
+  unfolding connect
+  keep-connect was = search (keep-cond, needs) depth 10
+
+  pub keep-load-tail : Ready n (load-tail p)
+  unfolding load-tail
+  keep-load-tail = go (p .tx) where
+    go : (t : Tx) → Ready n (load-tail-on t p)
+    go Off = r
+    go (Blocked k) = r
+    go (Mark next) = r
+    go (Start k next) = r
+    go (Data k cell next) = r
+    go (Tail Nothing next) = both (Ready n) (holds (p .holding)) (keep-tailed r next) r
+    go (Tail (Next k) next) = r
+
+module _ {n : ℕ} {p : Port} (r : Ready n p) where
+  pub keep-write-scr : (v : ℕ) → Ready n (write-scr v p)
+  unfolding write-scr
+  keep-write-scr v = keep-scr-rx (keep-scr-tx (keep-same r _ refl refl refl) (has (p .scr) 0x20) v) v
+
+module _ {n : ℕ} {p : Port} (r : Ready n p) where
+  pub keep-stored : (a v : ℕ) → Ready n (stored a v p)
+  unfolding stored
+  keep-stored a v = search (keep-cond, keep-write-scr, keep-write-tdr, keep-status-write, needs) depth 14
+
+  pub keep-settled : Ready n (settled p)
+  unfolding settled
+  keep-settled = keep-refresh-sync-clock (keep-arm-receive (keep-try-start (keep-load-tail r)))
+
+  pub keep-inside : Ready n (inside p)
+  keep-inside = keep-same r (inside p) refl refl refl
+
+  pub keep-uncounted : (k : ℕ) → Ready n (uncounted k p)
+  keep-uncounted zero = r
+  keep-uncounted (suc k) = keep-inside
+
+module _ {n : ℕ} {p : Port} (r : Ready n p) where
+  pub keep-write : (a v : ℕ) → Ready n (write a v p)
+  unfolding write
+  keep-write a v =
+      both (Ready n) (p .«module» && not (p .«reset_mode»)) (keep-settled (keep-connect (keep-stored r a v) (external p))) r
+
+-- ---- the pins
+module _ {n : ℕ} {p : Port} (r : Ready n p) where
+  pub keep-receive-input : (level : Bool) → Ready n (receive-input level p)
+  unfolding receive-input
+  keep-receive-input level =
+      both (Ready n) (differ level (p .input)) (keep-arm-receive (keep-same r (with-input p level) refl refl refl)) r
+
+  pub keep-input-clock : (level : Bool) → Ready n (with-input-clock p level)
+  keep-input-clock level = keep-same r (with-input-clock p level) refl refl refl
+
+  pub keep-power : (module-on main-on sub-on reset-on : Bool) → Ready n (with-power p module-on main-on sub-on reset-on)
+  keep-power a b c d = keep-same r (with-power p a b c d) refl refl refl
+
+-- ---- steps after which the half is the port's own: a counted edge adds one, a reset begins again at 0
+abbrev Own : Port → Type 0
+Own p = Ready (p .half) p
+
+pub own : (p : Port) (n : ℕ) → Ready n p → Own p
+own p n h = subst (λ (m : ℕ). Ready m p) (sym (h .half≡)) h
+
+module _ {p : Port} (r : Own p) where
+  pub keep-external-edge : (level : Bool) → (edge-counts level p ≡ true → p .half < limit) → Own (external-edge level p)
+  unfolding external-edge
+  keep-external-edge level h =
+      either Own (edge-counts level p)
+      (λ e. own _ _ (keep-refresh-sync-clock (keep-sync-edge (keep-process-basic (keep-edge-counted r level (h e))) level)))
+      (λ _. r)
+
+  pub keep-reset-registers : (spcr : ℕ) → Own (reset-registers spcr p)
+  unfolding reset-registers fresh
+  keep-reset-registers spcr = record { half≡ = refl; half≤ = zero-le; placed = tt; sendable = tt }
+
+  pub keep-reset : (module-on reset-on : Bool) → Own (reset module-on reset-on p)
+  unfolding reset
+  keep-reset module-on reset-on =
+      both Own (not module-on && p .«module») (keep-reset-registers 0xc0)
+      (both Own (reset-on && not (p .«reset_mode»)) (keep-reset-registers (p .spcr)) r)
+
+module _ {p : Port} (r : Own p) where
+  pub keep-set-power : (module-on main-on sub-on reset-on : Bool) → Own (set-power module-on main-on sub-on reset-on p)
+  unfolding set-power
+  keep-set-power a b c d = own _ _ (keep-refresh-sync-clock (keep-power (keep-reset r a d) a b c d))
+
+-- ---- at a call: what a ready port gives
+pub ready-half : (p : Port) → Ready (p .half) p → p .half ≤ limit
+ready-half p r = r .half≤
+
+pub ready-tx : (p : Port) → Ready (p .half) p → Sendable (p .tx)
+ready-tx p r = r .sendable
+
+pub ready-rx : (p : Port) → Ready (p .half) p → PlacedIn (p .rx)
+ready-rx p r = r .placed
+
+-- ---- the result of a call, which its contract says to be a step's
+result : {n : ℕ} (r q : Port) → r ≡ q → Ready n q → Ready (r .half) r
+result {n} r q e h = subst⁻¹ Own e (own q n h)
+
+pub with-tx-ready : (r p : Port) (t : Tx) → r ≡ with-tx p t → Sendable t → Ready (p .half) p → Ready (r .half) r
+with-tx-ready r p t e s h = result r (with-tx p t) e (keep-tx h t s)
+
+pub with-rx-ready : (r p : Port) (x : Receiver) → r ≡ with-rx p x → PlacedIn x → Ready (p .half) p → Ready (r .half) r
+with-rx-ready r p x e s h = result r (with-rx p x) e (keep-rx h x s)
+
+pub drive-ready : (r p : Port) (high : Bool) → r ≡ drive p high → Ready (p .half) p → Ready (r .half) r
+drive-ready r p high e h = result r (drive p high) e (keep-drive h high)
+
+pub preloaded-ready : (r p : Port) → r ≡ preloaded p → Ready (p .half) p → Ready (r .half) r
+preloaded-ready r p e h = result r (preloaded p) e (keep-preloaded h)
+
+pub begin-ready : (r p : Port) (k : Character) → r ≡ begin p k → Bounded (k .format) → Ready (p .half) p → Ready (r .half) r
+begin-ready r p k e f h = result r (begin p k) e (keep-begin h k f)
+
+pub start-at-ready : (r p : Port) (k : Character) (next : ℕ) → r ≡ start-at p k next → Bounded (k .format) → Ready (p .half) p → Ready (r .half) r
+start-at-ready r p k next e f h = result r (start-at p k next) e (keep-start-at h k next f)
+
+pub start-loaded-ready : (r p : Port) (l : Loaded) → r ≡ start-loaded l p → LoadedBounded l → Ready (p .half) p → Ready (r .half) r
+start-loaded-ready r p l e f h = result r (start-loaded l p) e (keep-start-loaded h l f)
+
+pub try-start-ready : (r p : Port) → r ≡ try-start p → Ready (p .half) p → Ready (r .half) r
+try-start-ready r p e h = result r (try-start p) e (keep-try-start h)
+
+pub one-sent-ready : (r p : Port) → r ≡ one-sent p → Ready (p .half) p → Ready (r .half) r
+one-sent-ready r p e h = result r (one-sent p) e (keep-sent h)
+
+pub finish-tail-ready : (r p : Port) (l : Loaded) → r ≡ finish-tail l p → LoadedBounded l → Ready (p .half) p → Ready (r .half) r
+finish-tail-ready r p l e f h = result r (finish-tail l p) e (keep-finish-tail h l f)
+
+pub next-cell-ready : (r p : Port) (k : Character) (cell : ℕ) → r ≡ next-cell k cell p → Bounded (k .format) → cell ≤ stop (k .format) → Ready (p .half) p → Ready (r .half) r
+next-cell-ready r p k cell e f c h = result r (next-cell k cell p) e (keep-next-cell h k cell f c)
+
+pub send-step-ready : (r p : Port) → r ≡ send-step-on (p .tx) p → due-now (tx-next (p .tx)) (p .half) ≡ true → Ready (p .half) p → Ready (r .half) r
+send-step-ready r p e d h = result r (send-step-on (p .tx) p) e (keep-send-step h d)
+
+pub advance-tx-ready : (r p : Port) → r ≡ advance-tx p → Ready (p .half) p → Ready (r .half) r
+advance-tx-ready r p e h = result r (advance-tx p) e (keep-advance-tx h)
+
+pub arm-receive-ready : (r p : Port) → r ≡ arm-receive p → Ready (p .half) p → Ready (r .half) r
+arm-receive-ready r p e h = result r (arm-receive p) e (keep-arm-receive h)
+
+pub complete-receive-ready : (r p : Port) (x : Rx) → r ≡ complete-receive p x → Ready (p .half) p → Ready (r .half) r
+complete-receive-ready r p x e h = result r (complete-receive p x) e (keep-complete-receive h x)
+
+pub after-sample-ready : (r p : Port) (s : Sampled) → r ≡ after-sample s p → PlacedBy s → Ready (p .half) p → Ready (r .half) r
+after-sample-ready r p s e b h = result r (after-sample s p) e (keep-after-sample h s b)
+
+pub advance-rx-ready : (r p : Port) → r ≡ advance-rx p → Ready (p .half) p → Ready (r .half) r
+advance-rx-ready r p e h = result r (advance-rx p) e (keep-advance-rx h)
+
+pub refresh-sync-clock-ready : (r p : Port) → r ≡ refresh-sync-clock p → Ready (p .half) p → Ready (r .half) r
+refresh-sync-clock-ready r p e h = result r (refresh-sync-clock p) e (keep-refresh-sync-clock h)
+
+pub take-bit-ready : (r p : Port) (x : Rx) → r ≡ take-bit p x → Placed x → x .format .synchronous ≡ true → Ready (p .half) p → Ready (r .half) r
+take-bit-ready r p x e b s h = result r (take-bit p x) e (keep-take-bit h x b s)
+
+pub receive-bit-ready : (r p : Port) → r ≡ receive-bit p → Ready (p .half) p → Ready (r .half) r
+receive-bit-ready r p e h = result r (receive-bit p) e (keep-receive-bit h)
+
+pub tail-ends-ready : (r p : Port) → r ≡ tail-ends p → Ready (p .half) p → Ready (r .half) r
+tail-ends-ready r p e h = result r (tail-ends p) e (keep-tail-ends h)
+
+pub bit-out-ready : (r p : Port) (k : Character) (cell : ℕ) → r ≡ bit-out k cell p → Bounded (k .format) → cell ≤ 7 → Ready (p .half) p → Ready (r .half) r
+bit-out-ready r p k cell e f c h = result r (bit-out k cell p) e (keep-bit-out h k cell f c)
+
+pub shift-out-ready : (r p : Port) → r ≡ shift-out p → Ready (p .half) p → Ready (r .half) r
+shift-out-ready r p e h = result r (shift-out p) e (keep-shift-out h)
+
+pub sync-edge-ready : (r p : Port) (high : Bool) → r ≡ sync-edge high p → Ready (p .half) p → Ready (r .half) r
+sync-edge-ready r p high e h = result r (sync-edge high p) e (keep-sync-edge h high)
+
+pub process-basic-ready : (r p : Port) → r ≡ process-basic p → Ready (p .half) p → Ready (r .half) r
+process-basic-ready r p e h = result r (process-basic p) e (keep-process-basic h)
+
+pub sync-ready : (r p : Port) → r ≡ sync p → Ready (p .half) p → Ready (r .half) r
+sync-ready r p e h = result r (sync p) e (keep-sync h)
+
+pub clocked-edge-ready : (r p : Port) → r ≡ clocked-edge p → Ready (p .half) p → Ready (r .half) r
+clocked-edge-ready r p e h = result r (clocked-edge p) e (keep-clocked-edge h)
+
+pub advance-ready : (r p : Port) → r ≡ advance p → Ready (p .half) p → Ready (r .half) r
+advance-ready r p e h = result r (advance p) e (keep-advance h)
+
+pub edge-counted-ready : (r p : Port) (high : Bool) → r ≡ edge-counted p high → p .half < limit → Ready (p .half) p → Ready (r .half) r
+edge-counted-ready r p high e l h = result r (edge-counted p high) e (keep-edge-counted h high l)
+
+pub half-step-ready : (r p : Port) → r ≡ half-step p → p .half < limit → Ready (p .half) p → Ready (r .half) r
+half-step-ready r p e l h = result r (half-step p) e (keep-half-step h l)
+
+pub halves-ready : (r p : Port) (k : ℕ) → r ≡ halves k p → p .half + k ≤ limit → Ready (p .half) p → Ready (r .half) r
+halves-ready r p k e l h = result r (halves k p) e (keep-halves k h l)
+
+pub stored-ready : (r p : Port) (a v : ℕ) → r ≡ stored a v p → Ready (p .half) p → Ready (r .half) r
+stored-ready r p a v e h = result r (stored a v p) e (keep-stored h a v)
+
+pub connect-ready : (r p : Port) (was : Bool) → r ≡ connect was p → Ready (p .half) p → Ready (r .half) r
+connect-ready r p was e h = result r (connect was p) e (keep-connect h was)
+
+pub load-tail-ready : (r p : Port) → r ≡ load-tail p → Ready (p .half) p → Ready (r .half) r
+load-tail-ready r p e h = result r (load-tail p) e (keep-load-tail h)
+
+pub settled-ready : (r p : Port) → r ≡ settled p → Ready (p .half) p → Ready (r .half) r
+settled-ready r p e h = result r (settled p) e (keep-settled h)
+
+pub write-ready : (r p : Port) (a v : ℕ) → r ≡ write a v p → Ready (p .half) p → Ready (r .half) r
+write-ready r p a v e h = result r (write a v p) e (keep-write h a v)
+
+pub receive-input-ready : (r p : Port) (level : Bool) → r ≡ receive-input level p → Ready (p .half) p → Ready (r .half) r
+receive-input-ready r p level e h = result r (receive-input level p) e (keep-receive-input h level)
+
+pub external-edge-ready : (r p : Port) (level : Bool) → r ≡ external-edge level p → (edge-counts level p ≡ true → p .half < limit) → Ready (p .half) p → Ready (r .half) r
+external-edge-ready r p level e l h = result r (external-edge level p) e (keep-external-edge h level l)
+
+pub inside-ready : (r p : Port) → r ≡ inside p → Ready (p .half) p → Ready (r .half) r
+inside-ready r p e h = result r (inside p) e (keep-inside h)
+
+pub uncounted-ready : (r p : Port) (k : ℕ) → r ≡ uncounted k p → Ready (p .half) p → Ready (r .half) r
+uncounted-ready r p k e h = result r (uncounted k p) e (keep-uncounted h k)
+
+pub reset-registers-ready : (r p : Port) (spcr : ℕ) → r ≡ reset-registers spcr p → Ready (p .half) p → Ready (r .half) r
+reset-registers-ready r p spcr e h = result r (reset-registers spcr p) e (keep-reset-registers h spcr)
+
+pub reset-ready : (r p : Port) (module-on reset-on : Bool) → r ≡ reset module-on reset-on p → Ready (p .half) p → Ready (r .half) r
+reset-ready r p module-on reset-on e h = result r (reset module-on reset-on p) e (keep-reset h module-on reset-on)
+
+pub with-power-ready : (r p : Port) (a b c d : Bool) → r ≡ with-power p a b c d → Ready (p .half) p → Ready (r .half) r
+with-power-ready r p a b c d e h = result r (with-power p a b c d) e (keep-power h a b c d)
+
+pub set-power-ready : (r p : Port) (a b c d : Bool) → r ≡ set-power a b c d p → Ready (p .half) p → Ready (r .half) r
+set-power-ready r p a b c d e h = result r (set-power a b c d p) e (keep-set-power h a b c d)
+
+pub with-clock-ready : (r p : Port) (next : Due) (high : Bool) → r ≡ with-clock p next high → Ready (p .half) p → Ready (r .half) r
+with-clock-ready r p next high e h = result r (with-clock p next high) e (keep-clock h next high)
+
+-- a sample's outcome
+pub sampled-placed : (s : Sampled) (now : Format) (high : Bool) (half : ℕ) (x : Rx) → s ≡ sample now high half x → Bounded now → Placed x
+    → x .format .synchronous ≡ false → PlacedBy s
+sampled-placed s now high half x e b h c = subst⁻¹ PlacedBy e (sample-placed now high half x b h c)
+
+-- an edge that a call's flag says to count
+pub counts-below : (b : Bool) (level : Bool) (p : Port) → b ≡ edge-counts level p → b ≡ true → (edge-counts level p ≡ true → p .half < limit) → p .half < limit
+counts-below b level p e t h = h (sym e ∙ t)
+
+-- ---- less than ready: where a step asks only for the half count
+half-as : (r q : Port) → r ≡ q → q .half ≤ limit → r .half ≤ limit
+half-as r q e h = subst⁻¹ (λ (x : Port). x .half ≤ limit) e h
+
+pub with-power-half : (r p : Port) (a b c d : Bool) → r ≡ with-power p a b c d → p .half ≤ limit → r .half ≤ limit
+with-power-half r p a b c d e h = half-as r (with-power p a b c d) e h
+
+pub reset-half : (r p : Port) (module-on reset-on : Bool) → r ≡ reset module-on reset-on p → p .half ≤ limit → r .half ≤ limit
+unfolding reset reset-registers fresh
+reset-half r p module-on reset-on e h =
+    half-as r (reset module-on reset-on p) e
+    (both (λ (x : Port). x .half ≤ limit) (not module-on && p .«module») zero-le
+    (both (λ (x : Port). x .half ≤ limit) (reset-on && not (p .«reset_mode»)) zero-le h))
+
+-- ---- the loop over the halves, which adds one to the count as i + 1
+pub halves-next : (r p q : Port) (i : ℕ) → r ≡ half-step p → p ≡ halves i q → r ≡ halves (i + 1) q
+halves-next r p q i e h = e ∙ ap half-step h ∙ sym (halves-last i q) ∙ ap (λ (m : ℕ). halves m q) (sym (add-one i))
+
+pub half-step-next : (r p : Port) (m i : ℕ) → r ≡ half-step p → Ready (m + i) p → m + i < limit → Ready (m + (i + 1)) r
+half-step-next r p m i e h l =
+    let q : suc (m + i) ≡ m + (i + 1) = omega arith in
+    subst⁻¹ (Ready (m + (i + 1))) e (subst (λ (k : ℕ). Ready k (half-step p)) q (keep-half-step h l))
+
+-- ---- rulesets for a `requires`; a longer list of laws exhausts the search
+-- the calls of this crate that ask for a ready port, or a part of one
+pub ruleset ready = (ready-half, ready-tx, ready-rx, advance-tx-ready, advance-rx-ready, arm-receive-ready, process-basic-ready, receive-bit-ready, sync-ready, clocked-edge-ready, sync-edge-ready, edge-counted-ready, counts-below, with-clock-ready, load-tail-ready, try-start-ready, stored-ready, connect-ready, receive-input-ready)
+
+-- the longest chain of calls, in `external_edge`, wants fewer
+pub ruleset edges = (ready-half, counts-below, edge-counted-ready, process-basic-ready, sync-edge-ready)
+
+-- those that ask only for the half count
+pub ruleset halved = (with-power-half, reset-half)

@@ -1,0 +1,25 @@
+use borrow.Author.Needs.{needs}
+use Rattle.sci.proofs.Clauses.{advance-rx-on-clauses}
+use Rattle.sci.proofs.Under.{under}
+use Rattle.sci.proofs.Steps.{step, held, bools}
+use Rattle.sci.specs.Receiver.{advance-rx}
+use Rattle.sci.proofs.Port.advance_rx.Statement.{statement}
+use Rattle.sci.proofs.Port.advance_rx.Tie as tie
+
+pub advance-rx-spec : {M : Type 1} → statement M
+unfolding advance-rx
+advance-rx-spec =
+    tie.close
+    (tie.spec
+    (λ c. search needs)
+    (λ c. search needs)
+    (λ c. search (advance-rx-on-clauses, under, step) depth 10)
+    (λ c. search needs)
+    (λ c. search needs)
+    (λ c. search (advance-rx-on-clauses, under, step) depth 10)
+    (λ c. search (advance-rx-on-clauses, under, step) depth 10)
+    (λ c κs. search needs)
+    (λ c κs. search needs)
+    (λ c κs. search (held, step) depth 10)
+    (λ c κs. search needs)
+    (λ c. search (advance-rx-on-clauses, under, step) depth 10))

@@ -1,0 +1,15 @@
+use borrow.Author.Needs.{needs}
+use Rattle.sci.proofs.Under.{under}
+use Rattle.sci.proofs.Steps.{step, held, bools}
+use Rattle.sci.specs.Registers.{read}
+use Rattle.sci.proofs.Port.after_read.Statement.{statement}
+use Rattle.sci.proofs.Port.after_read.Tie as tie
+
+pub after-read-spec : {M : Type 1} → statement M
+unfolding read
+after-read-spec =
+    tie.close
+    (tie.spec
+    (λ c. search (under, step) depth 10)
+    (λ c. search (under, step) depth 10)
+    (λ c. search (under, step) depth 10))

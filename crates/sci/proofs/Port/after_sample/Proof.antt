@@ -1,0 +1,21 @@
+use borrow.Author.Needs.{needs}
+use Rattle.sci.proofs.Clauses.{after-sample-clauses}
+use Rattle.sci.proofs.Under.{under}
+use Rattle.sci.proofs.Steps.{step, held, bools}
+use Rattle.sci.proofs.Port.after_sample.Statement.{statement}
+use Rattle.sci.proofs.Port.after_sample.Tie as tie
+
+pub after-sample-spec : {M : Type 1} → statement M
+after-sample-spec =
+    tie.close
+    (tie.spec
+    (λ c. search needs)
+    (λ c κs. search needs)
+    (λ c. search needs)
+    (λ c κs. search needs)
+    (λ c. search needs)
+    (λ c κs. search needs)
+    (λ c κs. search needs)
+    (λ c. search (after-sample-clauses, under, step) depth 10)
+    (λ c. search (after-sample-clauses, under, step) depth 10)
+    (λ c. search (after-sample-clauses, under, step) depth 10))

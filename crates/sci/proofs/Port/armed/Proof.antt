@@ -1,0 +1,15 @@
+use Rattle.sci.proofs.Steps.{busy-eq}
+use Rattle.sci.proofs.Under.{armed-of, with-rx-of}
+use borrow.Author.Needs.{needs}
+use Rattle.sci.proofs.Port.armed.Statement.{statement}
+use Rattle.sci.proofs.Port.armed.Tie as tie
+
+pub armed-spec : {M : Type 1} → statement M
+armed-spec =
+    tie.close
+    (tie.spec
+    (λ c κs. search needs)
+    (λ c κs. search needs)
+    (λ c κs. search needs)
+    (λ c κs. search needs)
+    (λ c. search (with-rx-of, busy-eq, armed-of, needs) depth 10))

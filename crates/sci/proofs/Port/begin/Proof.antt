@@ -1,0 +1,19 @@
+use borrow.Author.Needs.{needs}
+use Rattle.sci.proofs.Under.{under}
+use Rattle.sci.proofs.Steps.{step, held, bools}
+use Rattle.sci.specs.Sender.{begin}
+use Rattle.sci.proofs.Port.begin.Statement.{statement}
+use Rattle.sci.proofs.Port.begin.Tie as tie
+
+pub begin-spec : {M : Type 1} → statement M
+unfolding begin
+begin-spec =
+    tie.close
+    (tie.spec
+    (λ c κs. search needs)
+    (λ c. search (under, step) depth 10)
+    (λ c. search needs)
+    (λ c κs. search needs)
+    (λ c κs. search needs)
+    (λ c κs. search needs)
+    (λ c. search (under, step) depth 10))

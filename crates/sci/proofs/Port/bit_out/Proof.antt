@@ -1,0 +1,21 @@
+use Rattle.frame.proofs.Choose.{choose}
+use Rattle.sci.proofs.Steps.{counts, loads}
+use Rattle.sci.proofs.Under.{drive-of, with-tx-of}
+use Rattle.sci.specs.Clocked.{bit-out}
+use borrow.Author.Needs.{needs}
+use Rattle.sci.proofs.Port.bit_out.Statement.{statement}
+use Rattle.sci.proofs.Port.bit_out.Tie as tie
+
+pub bit-out-spec : {M : Type 1} → statement M
+unfolding bit-out
+bit-out-spec =
+    tie.close
+    (tie.spec
+    (λ c κs. search needs)
+    (λ c κs. search needs)
+    (λ c κs. search needs)
+    (λ c κs. search needs)
+    (λ c. search (loads, drive-of, choose) depth 10)
+    (λ c. search needs)
+    (λ c κs. search needs)
+    (λ c. search (with-tx-of, drive-of, counts, choose) depth 10))

@@ -1,0 +1,13 @@
+use Rattle.sci.proofs.Same.{same-character}
+use Rattle.sci.proofs.Steps.{word-now}
+use borrow.Author.Needs.{needs}
+use Rattle.sci.proofs.Port.character.Statement.{statement}
+use Rattle.sci.proofs.Port.character.Tie as tie
+
+pub character-spec : {M : Type 1} → statement M
+character-spec =
+    tie.close
+    (tie.spec
+    (λ c κs. search needs)
+    (λ c κs. search needs)
+    (λ c. search (same-character, word-now, needs) depth 10))

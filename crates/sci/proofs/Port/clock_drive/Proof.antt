@@ -1,0 +1,16 @@
+use borrow.Author.Needs.{needs}
+use Rattle.sci.proofs.Under.{under}
+use Rattle.sci.proofs.Steps.{step, held, bools}
+use Rattle.sci.proofs.Port.clock_drive.Statement.{statement}
+use Rattle.sci.proofs.Port.clock_drive.Tie as tie
+
+pub clock-drive-spec : {M : Type 1} → statement M
+clock-drive-spec =
+    tie.close
+    (tie.spec
+    (λ c κs. search needs)
+    (λ c. search (under, step) depth 10)
+    (λ c κs. search needs)
+    (λ c. search (under, step) depth 10)
+    (λ c. search (under, step) depth 10)
+    (λ c. search (under, step) depth 10))

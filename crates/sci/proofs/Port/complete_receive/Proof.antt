@@ -1,0 +1,15 @@
+use Rattle.frame.proofs.Choose.{choose}
+use Rattle.sci.specs.Receiver.{complete-receive}
+use borrow.Author.Needs.{needs}
+use Rattle.sci.proofs.Port.complete_receive.Statement.{statement}
+use Rattle.sci.proofs.Port.complete_receive.Tie as tie
+
+pub complete-receive-spec : {M : Type 1} → statement M
+unfolding complete-receive
+complete-receive-spec =
+    tie.close
+    (tie.spec
+    (λ c. search (choose) depth 10)
+    (λ c κs. search needs)
+    (λ c. search (choose) depth 10)
+    (λ c. search (choose) depth 10))

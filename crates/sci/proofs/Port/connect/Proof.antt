@@ -1,0 +1,15 @@
+use Rattle.frame.proofs.Choose.{choose}
+use Rattle.sci.specs.Registers.{connect}
+use borrow.Author.Needs.{needs}
+use Rattle.sci.proofs.Port.connect.Statement.{statement}
+use Rattle.sci.proofs.Port.connect.Tie as tie
+
+pub connect-spec : {M : Type 1} → statement M
+unfolding connect
+connect-spec =
+    tie.close
+    (tie.spec
+    (λ c κs. search needs)
+    (λ c κs. search needs)
+    (λ c. search (choose) depth 10)
+    (λ c. search (choose) depth 10))

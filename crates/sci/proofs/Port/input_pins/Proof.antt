@@ -1,0 +1,28 @@
+use Rattle.frame.proofs.Choose.{choose, orders}
+use Rattle.sci.proofs.CallLaws.{done-eq, edge-room}
+use Rattle.sci.proofs.Checked.{flag-ready}
+use Rattle.sci.specs.Calls.{called, direct}
+use Rattle.sci.specs.Pins.{input-pins}
+use borrow.Author.Needs.{needs}
+use Rattle.sci.proofs.Port.input_pins.Statement.{statement}
+use Rattle.sci.proofs.Port.input_pins.Tie as tie
+
+pub input-pins-spec : {M : Type 1} → statement M
+unfolding direct called input-pins
+input-pins-spec =
+    tie.close
+    (tie.spec
+    (λ c κs. search needs)
+    (λ c κs. search needs)
+    (λ c κs. search needs)
+    (λ c. search (done-eq, orders, choose) depth 10)
+    (λ c κs. search needs)
+    (λ c κs. search (flag-ready, edge-room, needs) depth 10)
+    (λ c κs. search needs)
+    (λ c. search (done-eq, orders, choose) depth 10)
+    (λ c κs. search needs)
+    (λ c. search (done-eq, orders, choose) depth 10)
+    (λ c κs. search needs)
+    (λ c. search (done-eq, orders, choose) depth 10)
+    (λ c κs. search needs)
+    (λ c. search (done-eq, orders, choose) depth 10))

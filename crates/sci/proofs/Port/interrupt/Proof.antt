@@ -1,0 +1,13 @@
+use borrow.Author.Needs.{needs}
+use Rattle.sci.proofs.Under.{under}
+use Rattle.sci.proofs.Steps.{step, held, bools}
+use Rattle.sci.specs.Pins.{interrupt}
+use Rattle.sci.proofs.Port.interrupt.Statement.{statement}
+use Rattle.sci.proofs.Port.interrupt.Tie as tie
+
+pub interrupt-spec : {M : Type 1} → statement M
+unfolding interrupt
+interrupt-spec =
+    tie.close
+    (tie.spec
+    (λ c. search (under, step) depth 10))

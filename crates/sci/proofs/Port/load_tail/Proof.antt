@@ -1,0 +1,25 @@
+use Rattle.frame.proofs.Choose.{choose}
+use Rattle.sci.proofs.Clauses.{load-tail-on-clauses}
+use Rattle.sci.specs.Registers.{load-tail}
+use borrow.Author.Needs.{needs}
+use Rattle.sci.proofs.Port.load_tail.Statement.{statement}
+use Rattle.sci.proofs.Port.load_tail.Tie as tie
+
+pub load-tail-spec : {M : Type 1} → statement M
+unfolding load-tail
+load-tail-spec =
+    tie.close
+    (tie.spec
+    (λ c. search needs)
+    (λ c. search needs)
+    (λ c. search needs)
+    (λ c. search needs)
+    (λ c. search needs)
+    (λ c. search needs)
+    (λ c κs. search needs)
+    (λ c. search (load-tail-on-clauses, choose) depth 10)
+    (λ c. search (load-tail-on-clauses, choose) depth 10)
+    (λ c. search (load-tail-on-clauses, choose) depth 10)
+    (λ c. search (load-tail-on-clauses, choose) depth 10)
+    (λ c. search (load-tail-on-clauses, choose) depth 10)
+    (λ c. search (load-tail-on-clauses, choose) depth 10))

@@ -1,0 +1,18 @@
+use Rattle.frame.proofs.Choose.{choose, orders}
+use Rattle.sci.proofs.CallLaws.{done-eq}
+use Rattle.sci.specs.Calls.{called, direct}
+use borrow.Author.Needs.{needs}
+use Rattle.sci.proofs.Port.pass_inside.Statement.{statement}
+use Rattle.sci.proofs.Port.pass_inside.Tie as tie
+
+pub pass-inside-spec : {M : Type 1} → statement M
+unfolding direct called
+pass-inside-spec =
+    tie.close
+    (tie.spec
+    (λ c κs. search needs)
+    (λ c κs. search needs)
+    (λ c κs. search needs)
+    (λ c. search (done-eq, orders, choose) depth 10)
+    (λ c κs. search needs)
+    (λ c. search (done-eq, orders, choose) depth 10))

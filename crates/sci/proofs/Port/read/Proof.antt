@@ -1,0 +1,24 @@
+use Rattle.frame.proofs.Choose.{choose, orders}
+use Rattle.sci.proofs.CallLaws.{done-eq}
+use Rattle.sci.specs.Calls.{called, direct}
+use borrow.Author.Needs.{needs}
+use Rattle.sci.proofs.Port.read.Statement.{statement}
+use Rattle.sci.proofs.Port.read.Tie as tie
+
+pub read-spec : {M : Type 1} → statement M
+unfolding direct called
+read-spec =
+    tie.close
+    (tie.spec
+    (λ c κs. search needs)
+    (λ c κs. search needs)
+    (λ c. search (done-eq, orders, choose) depth 10)
+    (λ c κs. search needs)
+    (λ c κs. search needs)
+    (λ c κs. search needs)
+    (λ c κs. search needs)
+    (λ c. search (done-eq, orders, choose) depth 10)
+    (λ c κs. search needs)
+    (λ c. search (done-eq, orders, choose) depth 10)
+    (λ c κs. search needs)
+    (λ c. search (done-eq, orders, choose) depth 10))

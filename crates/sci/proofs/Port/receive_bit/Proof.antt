@@ -1,0 +1,15 @@
+use Rattle.frame.proofs.Choose.{choose}
+use Rattle.sci.specs.Clocked.{receive-bit}
+use borrow.Author.Needs.{needs}
+use Rattle.sci.proofs.Port.receive_bit.Statement.{statement}
+use Rattle.sci.proofs.Port.receive_bit.Tie as tie
+
+pub receive-bit-spec : {M : Type 1} → statement M
+unfolding receive-bit
+receive-bit-spec =
+    tie.close
+    (tie.spec
+    (λ c κs. search needs)
+    (λ c κs. search needs)
+    (λ c. search (choose) depth 10)
+    (λ c. search (choose) depth 10))

@@ -1,0 +1,13 @@
+use borrow.Author.Needs.{needs}
+use Rattle.sci.proofs.Under.{under}
+use Rattle.sci.proofs.Steps.{step, held, bools}
+use Rattle.sci.proofs.Port.scr_rx.Statement.{statement}
+use Rattle.sci.proofs.Port.scr_rx.Tie as tie
+
+pub scr-rx-spec : {M : Type 1} → statement M
+scr-rx-spec =
+    tie.close
+    (tie.spec
+    (λ c. search (under, step) depth 10)
+    (λ c κs. search needs)
+    (λ c. search (under, step) depth 10))

@@ -1,0 +1,15 @@
+use Rattle.frame.proofs.Choose.{choose}
+use borrow.Author.Needs.{needs}
+use Rattle.sci.proofs.Port.scr_tx.Statement.{statement}
+use Rattle.sci.proofs.Port.scr_tx.Tie as tie
+
+pub scr-tx-spec : {M : Type 1} → statement M
+scr-tx-spec =
+    tie.close
+    (tie.spec
+    (λ c κs. search needs)
+    (λ c κs. search needs)
+    (λ c. search (choose) depth 10)
+    (λ c. search (choose) depth 10)
+    (λ c κs. search needs)
+    (λ c. search (choose) depth 10))

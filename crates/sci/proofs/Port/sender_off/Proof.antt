@@ -1,0 +1,13 @@
+use borrow.Author.Needs.{needs}
+use Rattle.sci.proofs.Under.{under}
+use Rattle.sci.proofs.Steps.{step, held, bools}
+use Rattle.sci.proofs.Port.sender_off.Statement.{statement}
+use Rattle.sci.proofs.Port.sender_off.Tie as tie
+
+pub sender-off-spec : {M : Type 1} → statement M
+sender-off-spec =
+    tie.close
+    (tie.spec
+    (λ c κs. search needs)
+    (λ c κs. search needs)
+    (λ c. search (under, step) depth 10))

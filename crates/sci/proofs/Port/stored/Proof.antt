@@ -1,0 +1,23 @@
+use Rattle.frame.proofs.Choose.{choose}
+use Rattle.sci.specs.Registers.{stored}
+use borrow.Author.Needs.{needs}
+use Rattle.sci.proofs.Port.stored.Statement.{statement}
+use Rattle.sci.proofs.Port.stored.Tie as tie
+
+pub stored-spec : {M : Type 1} → statement M
+unfolding stored
+stored-spec =
+    tie.close
+    (tie.spec
+    (λ c κs. search needs)
+    (λ c κs. search needs)
+    (λ c κs. search needs)
+    (λ c. search (choose) depth 14)
+    (λ c. search (choose) depth 14)
+    (λ c. search (choose) depth 14)
+    (λ c. search (choose) depth 14)
+    (λ c. search (choose) depth 14)
+    (λ c. search (choose) depth 14)
+    (λ c. search (choose) depth 14)
+    (λ c. search (choose) depth 14)
+    (λ c. search (choose) depth 14))

@@ -1,0 +1,16 @@
+use borrow.Author.Needs.{needs}
+use Rattle.sci.proofs.Clauses.{rx-clocked-clauses, tx-clocked-clauses}
+use Rattle.sci.proofs.Under.{under}
+use Rattle.sci.proofs.Steps.{step, held, bools}
+use Rattle.sci.proofs.Port.sync_needed.Statement.{statement}
+use Rattle.sci.proofs.Port.sync_needed.Tie as tie
+
+pub sync-needed-spec : {M : Type 1} → statement M
+sync-needed-spec =
+    tie.close
+    (tie.spec
+    (λ c κs. search needs)
+    (λ c κs. search needs)
+    (λ c κs. search needs)
+    (λ c κs. search needs)
+    (λ c. search (rx-clocked-clauses, tx-clocked-clauses, bools, step) depth 10))

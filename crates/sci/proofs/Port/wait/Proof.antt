@@ -1,0 +1,28 @@
+use Rattle.frame.proofs.Choose.{choose, orders}
+use Rattle.sci.proofs.CallLaws.{done-eq, sum-fits}
+use Rattle.sci.proofs.Checked.{flag-ready}
+use Rattle.sci.specs.Calls.{called, direct}
+use borrow.Author.Needs.{needs}
+use Rattle.sci.proofs.Port.wait.Statement.{statement}
+use Rattle.sci.proofs.Port.wait.Tie as tie
+
+pub wait-spec : {M : Type 1} → statement M
+unfolding direct called
+wait-spec =
+    tie.close
+    (tie.spec
+    (λ c κs. search needs)
+    (λ c κs. search needs)
+    (λ c. search (done-eq, orders, choose) depth 10)
+    (λ c κs. search needs)
+    (λ c. search (sum-fits, needs))
+    (λ c κs. search (flag-ready, needs) depth 10)
+    (λ c κs. search needs)
+    (λ c. search (done-eq, orders, choose) depth 10)
+    (λ c κs. search needs)
+    (λ c. search (done-eq, orders, choose) depth 10)
+    (λ c κs. search needs)
+    (λ c κs. search needs)
+    (λ c. search (done-eq, orders, choose) depth 10)
+    (λ c κs. search needs)
+    (λ c. search (done-eq, orders, choose) depth 10))

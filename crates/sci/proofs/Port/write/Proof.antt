@@ -1,0 +1,27 @@
+use Rattle.frame.proofs.Choose.{choose, orders}
+use Rattle.sci.proofs.CallLaws.{done-eq, value-fits}
+use Rattle.sci.proofs.Checked.{flag-ready}
+use Rattle.sci.specs.Calls.{called, direct}
+use borrow.Author.Needs.{needs}
+use Rattle.sci.proofs.Port.write.Statement.{statement}
+use Rattle.sci.proofs.Port.write.Tie as tie
+
+pub write-spec : {M : Type 1} → statement M
+unfolding direct called
+write-spec =
+    tie.close
+    (tie.spec
+    (λ c κs. search needs)
+    (λ c κs. search needs)
+    (λ c κs. search needs)
+    (λ c. search (done-eq, orders, choose) depth 10)
+    (λ c. search (value-fits, needs))
+    (λ c κs. search (flag-ready, needs) depth 10)
+    (λ c κs. search needs)
+    (λ c. search (done-eq, orders, choose) depth 10)
+    (λ c κs. search needs)
+    (λ c. search (done-eq, orders, choose) depth 10)
+    (λ c κs. search needs)
+    (λ c. search (done-eq, orders, choose) depth 10)
+    (λ c κs. search needs)
+    (λ c. search (done-eq, orders, choose) depth 10))

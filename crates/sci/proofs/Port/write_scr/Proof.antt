@@ -1,0 +1,15 @@
+use borrow.Author.Needs.{needs}
+use Rattle.sci.proofs.Under.{under}
+use Rattle.sci.proofs.Steps.{step, held, bools}
+use Rattle.sci.specs.Registers.{write-scr}
+use Rattle.sci.proofs.Port.write_scr.Statement.{statement}
+use Rattle.sci.proofs.Port.write_scr.Tie as tie
+
+pub write-scr-spec : {M : Type 1} → statement M
+unfolding write-scr
+write-scr-spec =
+    tie.close
+    (tie.spec
+    (λ c κs. search needs)
+    (λ c κs. search needs)
+    (λ c. search (under, step) depth 10))

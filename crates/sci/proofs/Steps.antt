@@ -1,0 +1,269 @@
+-- What the proofs of the port's steps hand to `search`, beside the generated clauses and congruences.
+-- Assumes nothing.
+use mathlib.Core.Path.{_≡_, refl, sym, ap, ap₂, _∙_, subst, subst⁻¹}
+use mathlib.Core.Bool.{Bool, true, false, not, cond, _&&_, _||_}
+use Prim.Native.Nat.{ℕ, zero, suc, _+_, _*_, _/_, _%_, _^_, _≤_, _<_, zero-le}
+use native.Mathlib.Nat.{mod-le, le-trans, mul-le-mul-left, mul-le-mul-right}
+use native.Mathlib.Numerals.{add-one}
+use native.Mathlib.Omega.{arith}
+use lib.Bits.{bitAnd, and-le-r}
+use lib.Dec.{eqb, leb, lit≤}
+use mir.Syntax.{w8, w32}
+use mir.Val.{Fits}
+use borrow.Author.Tests.{eq-eqb, ne-eqb, le-leb}
+use Rattle.frame.specs.declared.Format.{Format}
+use Rattle.frame.specs.Frame.{has, one-if, cells, format, word, format-valid}
+use Rattle.frame.proofs.Choose.{choose}
+use Rattle.frame.proofs.Laws.{one-shl}
+use Rattle.frame.proofs.Words.{shape, format-good}
+use Rattle.sci.specs.declared.Port.{Port}
+use Rattle.sci.specs.declared.Due.{Due}
+use Rattle.sci.specs.declared.Due.the-variants.{Never, At}
+use Rattle.sci.specs.declared.Character.{Character}
+use Rattle.sci.specs.declared.Loaded.{Loaded}
+use Rattle.sci.specs.declared.Loaded.the-variants.{Nothing, Next}
+use Rattle.sci.specs.declared.Preloaded.{Preloaded}
+use Rattle.sci.specs.declared.Rx.{Rx}
+use Rattle.sci.specs.declared.Receiver.{Receiver}
+use Rattle.sci.specs.declared.Receiver.the-variants.{Idle, Busy}
+use Rattle.sci.specs.declared.Sampled.{Sampled}
+use Rattle.sci.specs.declared.Sampled.the-variants.{Onward, Whole}
+use Rattle.sci.specs.declared.Tx.{Tx}
+use Rattle.sci.specs.declared.Tx.the-variants.{Off, Blocked, Mark, Start, Data, Tail}
+use Rattle.sci.specs.Receiver.{due-now, arm-receive}
+use Rattle.sci.specs.Fields.{with-tx}
+use Rattle.sci.specs.Baud.{format-of, boundary}
+use Rattle.sci.specs.Clocked.{clocked-word, refresh-sync-clock, sync-edge}
+use Rattle.sci.specs.Registers.{sender-on}
+use Rattle.sci.specs.Sender.{loaded, preloaded, preload, start-loaded, tailed, one-sent}
+use Rattle.sci.specs.Half.{inside, uncounted}
+use Rattle.sci.specs.Valid.{limit}
+use Rattle.sci.specs.Ready.{Bounded, Placed, PlacedIn, LoadedBounded, Below, Sendable, Plain}
+
+-- ---- tests
+-- a due half that is taken apart
+pub due-t : (d : Due) (n h : ℕ) → d ≡ At n → n ≡ h → due-now d h ≡ true
+due-t d n h e q = ap (λ (x : Due). due-now x h) e ∙ eq-eqb n h q
+
+pub due-f : (d : Due) (n h : ℕ) → d ≡ At n → (n ≡ h → ⊥) → due-now d h ≡ false
+due-f d n h e q = ap (λ (x : Due). due-now x h) e ∙ ne-eqb n h q
+
+pub due-none : (d : Due) (h : ℕ) → d ≡ Never → due-now d h ≡ false
+due-none d h e = ap (λ (x : Due). due-now x h) e
+
+-- the same where a call gave the due half
+pub due-call-t : (d e : Due) (n h : ℕ) → d ≡ e → d ≡ At n → n ≡ h → due-now e h ≡ true
+due-call-t d e n h g q k = due-t e n h (sym g ∙ q) k
+
+pub due-call-f : (d e : Due) (n h : ℕ) → d ≡ e → d ≡ At n → (n ≡ h → ⊥) → due-now e h ≡ false
+due-call-f d e n h g q k = due-f e n h (sym g ∙ q) k
+
+pub due-call-none : (d e : Due) (h : ℕ) → d ≡ e → d ≡ Never → due-now e h ≡ false
+due-call-none d e h g q = due-none e h (sym g ∙ q)
+
+pub ruleset dues = (due-t, due-f, due-none, due-call-t, due-call-f, due-call-none)
+
+-- Bools put together from what calls gave
+pub not-eq : (a b : Bool) → a ≡ b → not a ≡ not b
+not-eq a b e = ap not e
+
+pub and-eq : (a b c d : Bool) → a ≡ b → c ≡ d → (a && c) ≡ (b && d)
+and-eq a b c d e h = ap₂ _&&_ e h
+
+pub or-eq : (a b c d : Bool) → a ≡ b → c ≡ d → (a || c) ≡ (b || d)
+or-eq a b c d e h = ap₂ _||_ e h
+
+pub synchronous-of : (f g : Format) → f ≡ g → f .synchronous ≡ g .synchronous
+synchronous-of f g h = ap (λ (x : Format). x .synchronous) h
+
+pub ruleset bools = (not-eq, and-eq, or-eq, synchronous-of)
+
+-- a conjunction decided by its parts
+pub and-tt : (a b : Bool) → a ≡ true → b ≡ true → (a && b) ≡ true
+and-tt a b e h = ap₂ _&&_ e h
+
+pub and-f₁ : (a b : Bool) → a ≡ false → (a && b) ≡ false
+and-f₁ a b e = ap (λ (x : Bool). x && b) e
+
+pub not-t : (a : Bool) → a ≡ false → not a ≡ true
+not-t a e = ap not e
+
+pub not-f : (a : Bool) → a ≡ true → not a ≡ false
+not-f a e = ap not e
+
+-- ---- what the state is known to hold in an arm
+pub off-sendable : (t : Tx) → t ≡ Off → Sendable t
+off-sendable t h = subst⁻¹ Sendable h tt
+
+pub blocked-bounded : (t : Tx) (k : Character) → t ≡ Blocked k → Sendable t → Bounded (k .format)
+blocked-bounded t k h s = subst Sendable h s
+
+pub start-bounded : (t : Tx) (k : Character) (n : ℕ) → t ≡ Start k n → Sendable t → Bounded (k .format)
+start-bounded t k n h s = subst Sendable h s
+
+pub data-bounded : (t : Tx) (k : Character) (c : ℕ) (n : Due) → t ≡ Data k c n → Sendable t → Bounded (k .format)
+data-bounded t k c n h s = (subst Sendable h s) .0
+
+one-if≤ : (b : Bool) → one-if b ≤ 1
+one-if≤ true = lit≤ tt
+one-if≤ false = lit≤ tt
+
+below≤9 : (d : Due) (f : Format) (c : ℕ) → Bounded f → Below d f c → c ≤ 9
+below≤9 Never f c b h = omega arith
+below≤9 (At n) f c b h = omega (arith, b .data≤8, one-if≤ (f .parity))
+
+pub data-cell : (t : Tx) (k : Character) (c : ℕ) (n : Due) → t ≡ Data k c n → Sendable t → c ≤ 9
+data-cell t k c n h s = below≤9 n (k .format) c ((subst Sendable h s) .0) ((subst Sendable h s) .1)
+
+pub data-next : (t : Tx) (k : Character) (c : ℕ) (n : Due) → t ≡ Data k c n → Sendable t → c + 1 ≤ 10
+data-next t k c n h s = omega (arith, data-cell t k c n h s)
+
+pub data-fits : (t : Tx) (k : Character) (c : ℕ) (n : Due) → t ≡ Data k c n → Sendable t → Fits w8 (c + 1)
+data-fits t k c n h s = record { fits = omega (arith, data-cell t k c n h s) }
+
+pub tail-bounded : (t : Tx) (l : Loaded) (n : Due) → t ≡ Tail l n → Sendable t → LoadedBounded l
+tail-bounded t l n h s = subst Sendable h s
+
+pub next-bounded : (l : Loaded) (k : Character) → l ≡ Next k → LoadedBounded l → Bounded (k .format)
+next-bounded l k h s = subst LoadedBounded h s
+
+pub bounded-next : (k : Character) → Bounded (k .format) → LoadedBounded (Next k)
+bounded-next k h = h
+
+pub busy-placed : (x : Receiver) (r : Rx) → x ≡ Busy r → PlacedIn x → Placed r
+busy-placed x r h s = subst PlacedIn h s
+
+pub due-plain : (r : Rx) (n : ℕ) → r .next ≡ At n → Placed r → r .format .synchronous ≡ false
+due-plain r n h s = subst (λ (d : Due). Plain d (r .format .synchronous)) h (s .plain)
+
+pub ruleset held = (off-sendable, blocked-bounded, start-bounded, data-bounded, data-cell, data-next, data-fits, tail-bounded, next-bounded, bounded-next, busy-placed, due-plain)
+
+-- ---- formats
+pub valid-bounded : (f : Format) → format-valid f ≡ true → Bounded f
+valid-bounded f h =
+    let s = shape f h in
+    record { data≤8 = s .wide; stops≤2 = s .two; half≤32 = s .short; half≥16 = s .long }
+
+pub next-eq : (a b : Character) → a ≡ b → Next a ≡ Next b
+next-eq a b e = ap Next e
+
+pub busy-eq : (a b : Rx) → a ≡ b → Busy a ≡ Busy b
+busy-eq a b e = ap Busy e
+
+pub onward-eq : (a b : Rx) → a ≡ b → Onward a ≡ Onward b
+onward-eq a b e = ap Onward e
+
+pub whole-eq : (a b : Rx) → a ≡ b → Whole a ≡ Whole b
+whole-eq a b e = ap Whole e
+
+pub at-eq : (a b : ℕ) → a ≡ b → At a ≡ At b
+at-eq a b e = ap At e
+
+pub ruleset within = (next-eq, busy-eq, onward-eq, whole-eq, at-eq)
+
+pub ruleset step = (dues, within, choose)
+
+-- a bit of a word, by a shifted one
+pub bit-test : (w n : ℕ) → n ≤ 15 → has w ((1 * 2 ^ n) % 65536) ≡ has w (2 ^ n)
+bit-test w n h = ap (has w) (one-shl n h)
+
+-- ---- the code's sums, and the definition's successors
+pub plus-one : (n : ℕ) → n + 1 ≡ suc n
+plus-one n = add-one n
+
+pub plus-two : (n : ℕ) → n + 2 ≡ suc (suc n)
+plus-two n = omega arith
+
+pub wraps : (r n : ℕ) → r ≡ (n + 1) % 2 ^ 64 → r ≡ suc n % 2 ^ 64
+wraps r n e = e ∙ ap (λ (x : ℕ). x % 2 ^ 64) (add-one n)
+
+pub ruleset counts = (plus-one, plus-two, wraps)
+
+-- ---- n halves' time that no clock counts
+pub uncounted-none : (n : ℕ) (p z : Port) → n ≡ 0 → z ≡ p → z ≡ uncounted n p
+uncounted-none n p z h e = e ∙ sym (ap (λ (k : ℕ). uncounted k p) h)
+
+pub uncounted-some : (n : ℕ) (p z : Port) → (n ≡ 0 → ⊥) → z ≡ inside p → z ≡ uncounted n p
+uncounted-some zero p z h e = absurd (h refl)
+uncounted-some (suc n) p z h e = e
+
+-- ---- lengths that fit 32 bits
+-- a frame has at most twelve cells
+cells≤ : (f : Format) → Bounded f → cells f ≤ 12
+cells≤ f h = omega (arith, one-if≤ (f .parity), h .data≤8, h .stops≤2)
+
+product≤ : (m n a b : ℕ) → m ≤ a → n ≤ b → m * n ≤ a * b
+product≤ m n a b hm hn = le-trans (mul-le-mul-right n hm) (mul-le-mul-left a hn)
+
+-- the stop cells of a word, and their end
+pub stops-fit : (f : Format) → Bounded f → Fits w32 (f .stops * f .«half_bit»)
+stops-fit f h = record { fits = omega (arith, product≤ (f .stops) (f .«half_bit») 2 32 (h .stops≤2) (h .half≤32)) }
+
+pub stops-end : (n : ℕ) (f : Format) → n ≤ limit → Bounded f → Fits w32 (n + f .stops * f .«half_bit»)
+stops-end n f hn h = record { fits = omega (arith, product≤ (f .stops) (f .«half_bit») 2 32 (h .stops≤2) (h .half≤32)) }
+
+-- a character of mark, and its end
+pub mark-fit : (c : ℕ) (f : Format) → c ≡ cells f → Bounded f → Fits w32 (c * f .«half_bit»)
+mark-fit c f e h = record { fits = omega (arith, product≤ c (f .«half_bit») 12 32 (subst⁻¹ (λ (x : ℕ). x ≤ 12) e (cells≤ f h)) (h .half≤32)) }
+
+pub mark-end : (b n c : ℕ) (f : Format) → b ≤ n + f .«half_bit» → n ≤ limit → c ≡ cells f → Bounded f → Fits w32 (b + c * f .«half_bit»)
+mark-end b n c f hb hn e h =
+    record { fits = omega (arith, h .half≤32, product≤ c (f .«half_bit») 12 32 (subst⁻¹ (λ (x : ℕ). x ≤ 12) e (cells≤ f h)) (h .half≤32)) }
+
+-- ---- what a call gave, in a sum or a test
+pub mod-le-sum : (n m : ℕ) → n % m ≤ n + m
+mod-le-sum n m = omega (arith, mod-le n m)
+
+pub mask-fits : (a : ℕ) → bitAnd a 0xf8 ≤ 255
+mask-fits a = omega (arith, and-le-r a 0xf8)
+
+pub second-half : (f g : Format) (h : ℕ) → f ≡ g → leb (f .«half_bit» / 2) (h % f .«half_bit») ≡ leb (g .«half_bit» / 2) (h % g .«half_bit»)
+second-half f g h e = ap (λ (x : Format). leb (x .«half_bit» / 2) (h % x .«half_bit»)) e
+
+-- the word of a value in the format that the registers give
+pub word-now : (w : ℕ) (f : Format) (smr semr v : ℕ) → w ≡ cond (format-valid f) (word f v) 0 → f ≡ format smr semr → w ≡ word (format smr semr) v
+word-now w f smr semr v e h =
+    e ∙ ap (λ (x : Format). cond (format-valid x) (word x v) 0) h ∙ ap (λ (b : Bool). cond b (word (format smr semr) v) 0) (format-good smr semr)
+
+-- a character of mark from a boundary on, put together from what calls gave
+pub mark-of : (z p : Port) (b c : ℕ) (f : Format) → z ≡ with-tx p (Mark (b + c * f .«half_bit»)) → b ≡ boundary p (f .«half_bit») → c ≡ cells f → f ≡ format-of p → z ≡ sender-on p
+mark-of z p b c f e hb hc hf =
+    e ∙ ap₂ (λ (x y : ℕ). with-tx p (Mark (x + y * f .«half_bit»))) hb hc
+    ∙ ap (λ (g : Format). with-tx p (Mark (boundary p (g .«half_bit») + cells g * g .«half_bit»))) hf
+
+-- a new clocked word is in its place
+pub clocked-begun : (r : Rx) (f : Format) → r ≡ clocked-word f → Bounded f → Placed r
+clocked-begun r f e h = subst⁻¹ Placed e (record { bounded = h; place = le-leb 0 (cond (f .synchronous) 7 (f .«data» + one-if (f .parity))) zero-le; plain = tt })
+
+pub clocked-synchronous : (r : Rx) (f : Format) → r ≡ clocked-word f → f .synchronous ≡ true → r .format .synchronous ≡ true
+clocked-synchronous r f e h = ap (λ (x : Rx). x .format .synchronous) e ∙ h
+
+-- the held byte loaded, and what is then done with it
+pub tailed-load : (z : Port) (l : Preloaded) (p q : Port) (n : Due) → z ≡ tailed l n → l ≡ preload p → p ≡ q → z ≡ tailed (preload q) n
+tailed-load z l p q n e h k = e ∙ ap (λ (x : Preloaded). tailed x n) (h ∙ ap preload k)
+
+pub started-load : (z : Port) (l : Preloaded) (p : Port) → z ≡ start-loaded (l .loaded) (l .port) → l ≡ preload p → z ≡ start-loaded (loaded p) (preloaded p)
+started-load z l p e h = e ∙ ap (λ (x : Preloaded). start-loaded (x .loaded) (x .port)) h
+
+-- the number of a cell, and of the stop cell that a call gave
+pub stop-t : (c s t : ℕ) → s ≡ t → c ≡ s → eqb c t ≡ true
+stop-t c s t h e = eq-eqb c t (e ∙ h)
+
+pub stop-f : (c s t : ℕ) → s ≡ t → (c ≡ s → ⊥) → eqb c t ≡ false
+stop-f c s t h e = ne-eqb c t (λ q. e (q ∙ sym h))
+
+pub ruleset loads = (tailed-load, started-load, stop-t, stop-f)
+
+-- no sender, so nothing is asked of it
+pub sent-sendable : (r p : Port) → r ≡ one-sent p → Sendable (r .tx)
+sent-sendable r p e = subst⁻¹ (λ (x : Port). Sendable (x .tx)) e tt
+
+pub off-after : (r p : Port) → r ≡ with-tx p Off → Sendable (r .tx)
+off-after r p e = subst⁻¹ (λ (x : Port). Sendable (x .tx)) e tt
+
+-- the ends of two chains
+pub armed-clock-of : (z p q : Port) → z ≡ refresh-sync-clock (arm-receive p) → p ≡ q → z ≡ refresh-sync-clock (arm-receive q)
+armed-clock-of z p q e h = e ∙ ap (λ (x : Port). refresh-sync-clock (arm-receive x)) h
+
+pub clocked-to-of : (z p q : Port) (b : Bool) → z ≡ refresh-sync-clock (sync-edge b p) → p ≡ q → z ≡ refresh-sync-clock (sync-edge b q)
+clocked-to-of z p q b e h = e ∙ ap (λ (x : Port). refresh-sync-clock (sync-edge b x)) h

@@ -1,0 +1,23 @@
+use borrow.Author.Needs.{needs}
+use Rattle.sci.proofs.Clauses.{tx-next-clauses}
+use Rattle.sci.proofs.Under.{under}
+use Rattle.sci.proofs.Steps.{step, held, bools}
+use Rattle.sci.proofs.Tx.next.Statement.{statement}
+use Rattle.sci.proofs.Tx.next.Tie as tie
+
+pub next-spec : {M : Type 1} → statement M
+next-spec =
+    tie.close
+    (tie.spec
+    (λ c. search needs)
+    (λ c. search needs)
+    (λ c. search needs)
+    (λ c. search needs)
+    (λ c. search needs)
+    (λ c. search needs)
+    (λ c. search needs)
+    (λ c. search needs)
+    (λ c. search (tx-next-clauses, under, step) depth 10)
+    (λ c. search (tx-next-clauses, under, step) depth 10)
+    (λ c. search (tx-next-clauses, under, step) depth 10)
+    (λ c. search needs))

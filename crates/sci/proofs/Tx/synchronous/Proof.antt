@@ -1,0 +1,25 @@
+use borrow.Author.Needs.{needs}
+use Rattle.sci.proofs.Clauses.{absent-clauses, tx-clocked-clauses}
+use Rattle.sci.proofs.Under.{under}
+use Rattle.sci.proofs.Steps.{step, held, bools}
+use Rattle.sci.proofs.Tx.synchronous.Statement.{statement}
+use Rattle.sci.proofs.Tx.synchronous.Tie as tie
+
+pub synchronous-spec : {M : Type 1} → statement M
+synchronous-spec =
+    tie.close
+    (tie.spec
+    (λ c. search needs)
+    (λ c. search needs)
+    (λ c. search needs)
+    (λ c. search needs)
+    (λ c. search needs)
+    (λ c κs. search needs)
+    (λ c. search needs)
+    (λ c κs. search needs)
+    (λ c. search needs)
+    (λ c. search needs)
+    (λ c. search needs)
+    (λ c. search needs)
+    (λ c. search (absent-clauses, tx-clocked-clauses, under, step) depth 10)
+    (λ c. search needs))
