@@ -72,6 +72,11 @@ called passes-inside p = done 0 (inside p)
 unfoldable pub direct : Call → Port → Answer
 direct c p = cond (valid p) (called c p) (refuse 8 p)
 
+-- the port after a list of direct calls: each gets the port that the one before left
+unfoldable pub run : Port → List Call → Port
+run p [] = p
+run p (c ∷ cs) = run (after (direct c p)) cs
+
 -- ---- the code's answers, in document 01's numbers
 abbrev pub number : Refusal → ℕ
 number Address = 1

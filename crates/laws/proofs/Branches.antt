@@ -1,0 +1,51 @@
+-- General lemmas of tests: a branch by its two cases; conjunction, disjunction, negation and mask read as facts.
+-- Assumes nothing.
+use mathlib.Core.Path.{_≡_, refl, ap}
+use mathlib.Core.Logic.{_⊎_, inl, inr}
+use Prim.Native.Nat.{ℕ}
+use mathlib.Core.Bool.{Bool, true, false, cond, not, _&&_, _||_, true≢false, false≢true}
+use lib.Dec.{eqb}
+use lib.Bits.{bitAnd}
+use borrow.Author.Tests.{eqb-true, eq-eqb, not-false}
+use Rattle.frame.specs.Frame.{has}
+
+-- the one lemma for every branch
+pub by-cond : {A : Type 0} (P : A → Type 0) (b : Bool) (x y : A) → (b ≡ true → P x) → (b ≡ false → P y) → P (cond b x y)
+by-cond P true x y f g = f refl
+by-cond P false x y f g = g refl
+
+-- where the test does not matter
+pub both-arms : {A : Type 0} (P : A → Type 0) (b : Bool) (x y : A) → P x → P y → P (cond b x y)
+both-arms P b x y f g = by-cond P b x y (λ e. f) (λ e. g)
+
+pub and-no : (a : Bool) → (a && false) ≡ false
+and-no true = refl
+and-no false = refl
+
+pub and-yes : (a : Bool) → (a && true) ≡ a
+and-yes true = refl
+and-yes false = refl
+
+pub or-right : (a b : Bool) → (a || b) ≡ false → b ≡ false
+or-right true b e = absurd (true≢false e)
+or-right false b e = e
+
+pub or-true : (a b : Bool) → (a ≡ true) ⊎ (b ≡ true) → (a || b) ≡ true
+or-true true b e = refl
+or-true false b (inl e) = absurd (false≢true e)
+or-true false b (inr e) = e
+
+pub not-true : (a : Bool) → not a ≡ true → a ≡ false
+not-true true e = absurd (false≢true e)
+not-true false e = refl
+
+pub is-not : (a : Bool) → a ≡ false → not a ≡ true
+is-not true e = absurd (true≢false e)
+is-not false e = refl
+
+-- no bit of the mask is set
+pub without : (x m : ℕ) → not (has x m) ≡ true → bitAnd x m ≡ 0
+without x m e = eqb-true (bitAnd x m) 0 (not-false (eqb (bitAnd x m) 0) (not-true (has x m) e))
+
+pub without-test : (x m : ℕ) → bitAnd x m ≡ 0 → not (has x m) ≡ true
+without-test x m e = is-not (has x m) (ap not (eq-eqb (bitAnd x m) 0 e))

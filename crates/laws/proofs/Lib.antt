@@ -1,0 +1,15 @@
+pub mod Branches
+pub mod Masks
+pub mod SenderKeeps
+pub mod ReceiverKeeps
+pub mod KeepSender
+pub mod KeepReceiver
+pub mod KeepHalf
+pub mod KeepCalls
+pub mod KeepValid
+pub mod TallySent
+pub mod TallyReceived
+pub mod TallyHalf
+pub mod TallyCalls
+pub mod Laws
+pub mod ReceiveErrors
