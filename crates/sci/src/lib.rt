@@ -1445,10 +1445,10 @@ impl Port {
             return self;
         };
         let next = rx.next;
-        let Due::At(due) = next else {
+        let Due::At(sample) = next else {
             return self;
         };
-        if due != self.half {
+        if sample != self.half {
             return self;
         }
         let format = self.format();
@@ -1726,10 +1726,10 @@ impl Port {
         ensures { λ r. ⌜ r ≡ clocked-edge self ⌝ }
     {
         let next = self.sync_next;
-        let Due::At(due) = next else {
+        let Due::At(edge) = next else {
             return self;
         };
-        if due != self.half {
+        if edge != self.half {
             return self;
         }
         self.toggled().sync_edge(!self.sck)
