@@ -1,0 +1,290 @@
+-- The claim, computed: a test that a list meets what is asked, and a test that fails where what is claimed fails. For worked lists.
+-- Assumes nothing.
+use mathlib.Core.Path.{_≡_, refl, sym, ap, _∙_}
+use Prim.Native.Nat.{ℕ, zero, suc}
+use mathlib.Core.Bool.{Bool, true, false, not, _&&_, _||_, Bool·beq, true≢false, false≢true}
+use mathlib.Core.List.{List, [], _∷_, _++_}
+use lib.Dec.{eqb, leb}
+use lib.ListN.{length, getD}
+use borrow.Author.Tests.{eq-eqb, eqb-true, leb-true, le-leb}
+use Rattle.frame.specs.declared.Format.{Format}
+use Rattle.sci.specs.declared.Port.{Port}
+use Rattle.frame.proofs.Truth.{and-both, and-left, and-right}
+use Rattle.frame.specs.Frame.{has}
+use Rattle.sci.specs.Baud.{format-of, internal}
+use Rattle.sci.specs.Calls.{Answer, Call, lets-pass, passes-inside, reads, sets-line, sets-pins, sets-power, writes}
+use Rattle.sci.specs.Clocked.{rx-clocked}
+use Rattle.laws.proofs.Branches.{not-true}
+use Rattle.recovery.specs.Line.{Count, Event, Item, count-after, half-passes, none-yet, other, prefix, rdr-read, signal, stop-cells-begun, stop-cells-passed, tally-after, values}
+use Rattle.recovery.specs.Recovery.{HistoryEnd, Holds, Moment, Recovered, Recovers, Rest, Wired, Words, accepted, allowed-in-rest, allowed-in-words, answer-is, by-8, each, levels, line-at-mark, read-before, run, separated, start, step, throughout, trace}
+
+same-bits : (x y : Bool) → Bool·beq x y ≡ true → x ≡ y
+same-bits true true e = refl
+same-bits true false e = absurd (false≢true e)
+same-bits false true e = absurd (false≢true e)
+same-bits false false e = refl
+
+bits-same : (x y : Bool) → x ≡ y → Bool·beq x y ≡ true
+bits-same true true e = refl
+bits-same true false e = absurd (true≢false e)
+bits-same false true e = absurd (false≢true e)
+bits-same false false e = refl
+
+-- ---- what is asked
+unfoldable pub is-prefix : List Bool → List Bool → Bool
+is-prefix [] ys = true
+is-prefix (x ∷ xs) [] = false
+is-prefix (x ∷ xs) (y ∷ ys) = Bool·beq x y && is-prefix xs ys
+
+prefix-sound : (xs ys : List Bool) → is-prefix xs ys ≡ true → prefix xs ys
+unfolding is-prefix
+prefix-sound [] ys e = tt
+prefix-sound (x ∷ xs) [] e = absurd (false≢true e)
+prefix-sound (x ∷ xs) (y ∷ ys) e = (same-bits x y (and-left (Bool·beq x y) _ e), prefix-sound xs ys (and-right (Bool·beq x y) _ e))
+
+unfoldable pub may-rest : Call → Answer → Bool
+may-rest (writes x v) a = not (accepted a) || (eqb x 0xff9c || eqb x 0xff9d)
+may-rest (sets-power b) a = not (accepted a)
+may-rest (reads x) a = true
+may-rest (lets-pass n) a = true
+may-rest (sets-line b) a = true
+may-rest (sets-pins c b) a = true
+may-rest passes-inside a = true
+
+rest-sound : (c : Call) (a : Answer) → may-rest c a ≡ true → allowed-in-rest c a
+unfolding may-rest
+rest-sound (writes x v) a e = go (accepted a) e
+  where
+    go : (b : Bool) → (not b || (eqb x 0xff9c || eqb x 0xff9d)) ≡ true → b ≡ true → (eqb x 0xff9c || eqb x 0xff9d) ≡ true
+    go true g h = g
+    go false g h = absurd (false≢true h)
+rest-sound (sets-power b) a e = not-true (accepted a) e
+rest-sound (reads x) a e = tt
+rest-sound (lets-pass n) a e = tt
+rest-sound (sets-line b) a e = tt
+rest-sound (sets-pins c b) a e = tt
+rest-sound passes-inside a e = tt
+
+unfoldable pub may-read : Call → Answer → Bool
+may-read (writes x v) a = not (accepted a)
+may-read (sets-power b) a = not (accepted a)
+may-read (reads x) a = true
+may-read (lets-pass n) a = true
+may-read (sets-line b) a = true
+may-read (sets-pins c b) a = true
+may-read passes-inside a = true
+
+words-sound : (c : Call) (a : Answer) → may-read c a ≡ true → allowed-in-words c a
+unfolding may-read
+words-sound (writes x v) a e = not-true (accepted a) e
+words-sound (sets-power b) a e = not-true (accepted a) e
+words-sound (reads x) a e = tt
+words-sound (lets-pass n) a e = tt
+words-sound (sets-line b) a e = tt
+words-sound (sets-pins c b) a e = tt
+words-sound passes-inside a e = tt
+
+unfoldable pub was-read : Event → Count → Bool
+was-read (half-passes m true) c = not (c .unread)
+was-read (half-passes m false) c = true
+was-read (rdr-read a) c = true
+was-read other c = true
+
+unfoldable pub are-separated : Count → List Moment → Bool
+are-separated c [] = true
+are-separated c (m ∷ ms) = was-read (m .event) c && are-separated (count-after c (m .event)) ms
+
+separated-sound : (ms : List Moment) (c : Count) → are-separated c ms ≡ true → separated c ms
+unfolding are-separated was-read
+separated-sound [] c e = tt
+separated-sound (m ∷ ms) c e = (go (m .event) (and-left (was-read (m .event) c) _ e), separated-sound ms (count-after c (m .event)) (and-right (was-read (m .event) c) _ e))
+  where
+    go : (x : Event) → was-read x c ≡ true → read-before x c
+    go (half-passes l true) g = not-true (c .unread) g
+    go (half-passes l false) g = tt
+    go (rdr-read a) g = tt
+    go other g = tt
+
+module _ (direct : Call → Port → Answer) where
+  unfoldable pub all-may : (Call → Answer → Bool) → (Wired → Bool) → Wired → List Call → Bool
+  all-may f g s [] = true
+  all-may f g s (c ∷ cs) =
+      let a = direct c (s .port) in
+      (f c a && g (step c a s)) && all-may f g (step c a s) cs
+
+  rests-sound : (cs : List Call) (s : Wired) → all-may may-rest line-at-mark s cs ≡ true → each direct (λ c a q. allowed-in-rest c a × (line-at-mark q ≡ true)) s cs
+  unfolding all-may
+  rests-sound [] s e = tt
+  rests-sound (c ∷ cs) s e =
+      let b : (may-rest c (direct c (s .port)) && line-at-mark (step c (direct c (s .port)) s)) ≡ true = and-left (may-rest c (direct c (s .port)) && line-at-mark (step c (direct c (s .port)) s)) _ e in
+      ((rest-sound c (direct c (s .port)) (and-left (may-rest c (direct c (s .port))) _ b), and-right (may-rest c (direct c (s .port))) _ b), rests-sound cs (step c (direct c (s .port)) s) (and-right (may-rest c (direct c (s .port)) && line-at-mark (step c (direct c (s .port)) s)) _ e))
+
+  reads-sound : (cs : List Call) (s : Wired) → all-may may-read (λ q. true) s cs ≡ true → each direct (λ c a q. allowed-in-words c a) s cs
+  unfolding all-may
+  reads-sound [] s e = tt
+  reads-sound (c ∷ cs) s e =
+      let b : (may-read c (direct c (s .port)) && true) ≡ true = and-left (may-read c (direct c (s .port)) && true) _ e in
+      (words-sound c (direct c (s .port)) (and-left (may-read c (direct c (s .port))) _ b), reads-sound cs (step c (direct c (s .port)) s) (and-right (may-read c (direct c (s .port)) && true) _ e))
+
+  unfoldable pub history-meets : Wired → Bool
+  history-meets h = has (h .port .scr) 0x10 && (not (has (h .port .smr) 0x80) && (not (has (h .port .ssr) 0x38) && internal (h .port)))
+
+  -- `n` halves at least: 384 in the claim
+  unfoldable pub rest-meets : ℕ → Wired → List Call → Wired → Bool
+  rest-meets n h rest r =
+      line-at-mark h && (all-may may-rest line-at-mark h rest && (leb n (length (levels (trace direct h rest))) && (not (has (r .port .ssr) 0x78) && not (rx-clocked (r .port .rx)))))
+
+  unfoldable pub words-meet : Wired → List Call → List Item → List Moment → Bool
+  words-meet r words items ms =
+      all-may may-read (λ q. true) r words && (is-prefix (levels ms) (signal (format-of (r .port)) items) && are-separated none-yet ms)
+
+  history-sound : (h : Wired) → history-meets h ≡ true → HistoryEnd h
+  unfolding history-meets
+  history-sound h e =
+      let e1 : (not (has (h .port .smr) 0x80) && (not (has (h .port .ssr) 0x38) && internal (h .port))) ≡ true = and-right (has (h .port .scr) 0x10) _ e in
+      let e2 : (not (has (h .port .ssr) 0x38) && internal (h .port)) ≡ true = and-right (not (has (h .port .smr) 0x80)) _ e1 in
+      record {
+        re = and-left (has (h .port .scr) 0x10) _ e;
+        start-stop = not-true (has (h .port .smr) 0x80) (and-left (not (has (h .port .smr) 0x80)) _ e1);
+        no-error = not-true (has (h .port .ssr) 0x38) (and-left (not (has (h .port .ssr) 0x38)) _ e2);
+        clock = and-right (not (has (h .port .ssr) 0x38)) _ e2;
+      }
+
+  rest-is : (h : Wired) (rest : List Call) → rest-meets 384 h rest (run direct h rest) ≡ true → Rest direct h rest
+  unfolding rest-meets
+  rest-is h rest e =
+      let a : Bool = all-may may-rest line-at-mark h rest in
+      let b : Bool = leb 384 (length (levels (trace direct h rest))) in
+      let c : Bool = not (has (run direct h rest .port .ssr) 0x78) in
+      let d : Bool = not (rx-clocked (run direct h rest .port .rx)) in
+      let e1 : (a && (b && (c && d))) ≡ true = and-right (line-at-mark h) (a && (b && (c && d))) e in
+      let e2 : (b && (c && d)) ≡ true = and-right a (b && (c && d)) e1 in
+      let e3 : (c && d) ≡ true = and-right b (c && d) e2 in
+      record {
+        line = and-left (line-at-mark h) (a && (b && (c && d))) e;
+        calls = rests-sound rest h (and-left a (b && (c && d)) e1);
+        long = leb-true 384 (length (levels (trace direct h rest))) (and-left b (c && d) e2);
+        flags = not-true (has (run direct h rest .port .ssr) 0x78) (and-left c d e3);
+        no-clocked-word = not-true (rx-clocked (run direct h rest .port .rx)) (and-right c d e3);
+      }
+
+  words-are : (r : Wired) (words : List Call) (items : List Item) → words-meet r words items (trace direct r words) ≡ true → Words direct r words items
+  unfolding words-meet
+  words-are r words items e =
+      let ms : List Moment = trace direct r words in
+      let a : Bool = all-may may-read (λ q. true) r words in
+      let b : Bool = is-prefix (levels ms) (signal (format-of (r .port)) items) in
+      let c : Bool = are-separated none-yet ms in
+      let e1 : (b && c) ≡ true = and-right a (b && c) e in
+      record {
+        calls = reads-sound words r (and-left a (b && c) e);
+        line = prefix-sound (levels ms) (signal (format-of (r .port)) items) (and-left b c e1);
+        reads = separated-sound ms none-yet (and-right b c e1);
+      }
+
+  -- a list of calls that meets what is asked; `h` and `r` are where history and rest lead, `ms` the moments of the words
+  unfoldable pub asked-of : ℕ → Wired → List Call → Wired → List Call → List Item → List Moment → Bool
+  asked-of n h rest r words items ms = history-meets h && (rest-meets n h rest r && words-meet r words items ms)
+
+  unfoldable pub meets : List Call → List Call → List Call → List Item → Bool
+  meets history rest words items =
+      let h = run direct start history in
+      let r = run direct h rest in
+      asked-of 384 h rest r words items (trace direct r words)
+
+  pub record Met (history rest words : List Call) (items : List Item) : Type 0 where
+    pub ended : HistoryEnd (run direct start history)
+    pub rested : Rest direct (run direct start history) rest
+    pub worded : Words direct (run direct (run direct start history) rest) words items
+
+  pub met : (history rest words : List Call) (items : List Item) → meets history rest words items ≡ true → Met history rest words items
+  unfolding meets asked-of
+  met history rest words items e =
+      let h : Wired = run direct start history in
+      let r : Wired = run direct h rest in
+      let a : Bool = history-meets h in
+      let b : Bool = rest-meets 384 h rest r in
+      let c : Bool = words-meet r words items (trace direct r words) in
+      let e1 : (b && c) ≡ true = and-right a (b && c) e in
+      record { ended = history-sound h (and-left a (b && c) e); rested = rest-is h rest (and-left b c e1); worded = words-are r words items (and-right b c e1) }
+
+-- ---- what is claimed
+-- an RDR read after n completions
+abbrev pub right-answer : ℕ → ℕ → List ℕ → Bool
+right-answer a zero vs = true
+right-answer a (suc n) vs = eqb a (getD vs n 0)
+
+unfoldable pub says : Format → List Item → Count → Event → Bool
+says f items c (half-passes m b) = true
+says f items c (rdr-read a) = right-answer a (c .completions) (values f items)
+says f items c other = true
+
+says-so : (f : Format) (items : List Item) (c : Count) (e : Event) → answer-is f items c e → says f items c e ≡ true
+unfolding says
+says-so f items c (half-passes m b) t = refl
+says-so f items c (rdr-read a) t = go (c .completions) t
+  where
+    go : (k : ℕ) → ((n : ℕ) → k ≡ suc n → a ≡ getD (values f items) n 0) → right-answer a k (values f items) ≡ true
+    go zero u = refl
+    go (suc n) u = eq-eqb a (getD (values f items) n 0) (u n refl)
+says-so f items c other t = refl
+
+unfoldable pub stands : Port → List Item → Count → Moment → Bool
+stands first items c m =
+    not (has (m .port .ssr) 0x38) && (Bool·beq (has (m .port .ssr) 0x40) (c .unread) && (eqb (m .port .received) (tally-after (c .completions) (first .received))
+    && (leb (stop-cells-passed (format-of first) items (c .halves)) (c .completions) && (leb (c .completions) (stop-cells-begun (format-of first) items (c .halves))
+    && says (format-of first) items c (m .event)))))
+
+stands-so : (first : Port) (items : List Item) (c : Count) (m : Moment) → Holds first items c m → stands first items c m ≡ true
+unfolding stands
+stands-so first items c m h =
+    and-both (not (has (m .port .ssr) 0x38)) _ (ap not (h .no-error))
+    (and-both (Bool·beq (has (m .port .ssr) 0x40) (c .unread)) _ (bits-same (has (m .port .ssr) 0x40) (c .unread) (h .rdrf))
+    (and-both (eqb (m .port .received) (tally-after (c .completions) (first .received))) _ (eq-eqb (m .port .received) (tally-after (c .completions) (first .received)) (h .tally))
+    (and-both (leb (stop-cells-passed (format-of first) items (c .halves)) (c .completions)) _ (le-leb (stop-cells-passed (format-of first) items (c .halves)) (c .completions) (h .least))
+    (and-both (leb (c .completions) (stop-cells-begun (format-of first) items (c .halves))) _ (le-leb (c .completions) (stop-cells-begun (format-of first) items (c .halves)) (h .most))
+    (says-so (format-of first) items c (m .event) (h .answer))))))
+
+unfoldable pub all-stand : Port → List Item → Count → List Moment → Bool
+all-stand first items c [] = true
+all-stand first items c (m ∷ ms) = stands first items (count-after c (m .event)) m && all-stand first items (count-after c (m .event)) ms
+
+all-stand-so : (first : Port) (items : List Item) (ms : List Moment) (c : Count) → throughout first items c ms → all-stand first items c ms ≡ true
+unfolding all-stand
+all-stand-so first items [] c t = refl
+all-stand-so first items (m ∷ ms) c t =
+    and-both (stands first items (count-after c (m .event)) m) _ (stands-so first items (count-after c (m .event)) m (t .0)) (all-stand-so first items ms (count-after c (m .event)) (t .1))
+
+module _ (direct : Call → Port → Answer) where
+  unfoldable pub none-by-8 : Wired → List Call → Bool
+  none-by-8 s [] = true
+  none-by-8 s (c ∷ cs) =
+      let a = direct c (s .port) in
+      not (by-8 a) && none-by-8 (step c a s) cs
+
+  none-so : (cs : List Call) (s : Wired) → each direct (λ c a q. by-8 a ≡ false) s cs → none-by-8 s cs ≡ true
+  unfolding none-by-8
+  none-so [] s e = refl
+  none-so (c ∷ cs) s e = and-both (not (by-8 (direct c (s .port)))) _ (ap not (e .0)) (none-so cs (step c (direct c (s .port)) s) (e .1))
+
+  -- a list that meets what is asked, and of which what is claimed fails
+  unfoldable pub breaks : ℕ → List Call → List Call → List Call → List Item → Bool
+  breaks n history rest words items =
+      let h = run direct start history in
+      let r = run direct h rest in
+      let ms = trace direct r words in
+      asked-of direct n h rest r words items ms && not (none-by-8 start (history ++ (rest ++ words)) && all-stand (r .port) items none-yet ms)
+
+  pub refuted : (history rest words : List Call) (items : List Item) → breaks 384 history rest words items ≡ true → Recovers direct → ⊥
+  unfolding Recovers breaks meets
+  refuted history rest words items e claim =
+      let h : Wired = run direct start history in
+      let r : Wired = run direct h rest in
+      let ms : List Moment = trace direct r words in
+      let a : Bool = meets direct history rest words items in
+      let b : Bool = none-by-8 start (history ++ (rest ++ words)) in
+      let c : Bool = all-stand (r .port) items none-yet ms in
+      let m : Met direct history rest words items = met direct history rest words items (and-left a (not (b && c)) e) in
+      let w : Recovered direct history rest words items = claim history rest words items (m .ended) (m .rested) (m .worded) in
+      true≢false
+      (sym (and-both b c (none-so (history ++ (rest ++ words)) start (w .tested)) (all-stand-so (r .port) items ms none-yet (w .conditions))) ∙ not-true (b && c) (and-right a (not (b && c)) e))

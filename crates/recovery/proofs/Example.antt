@@ -1,0 +1,72 @@
+-- A worked list with a noisy history: it meets all that the claim asks, so the claim is not empty; and what follows for it.
+-- Assumes nothing.
+use mathlib.Core.Path.{_≡_, refl}
+use mathlib.Core.Bool.{Bool, cond}
+use mathlib.Core.List.{List, [], _∷_, _++_}
+use lib.ListN.{replicate}
+use Rattle.frame.specs.Frame.{bits, format, word}
+use Rattle.sci.specs.Calls.{Call, direct, lets-pass, passes-inside, reads, sets-line, sets-pins, sets-power, writes}
+use Rattle.recovery.specs.Corollaries.{Demand, Sentences}
+use Rattle.recovery.specs.Line.{Item, mark, signal, spread, stop-cells-begun, stop-cells-passed, tally-after, values, word-of}
+use Rattle.recovery.specs.Recovery.{Recovered, Recovers, Wired, completed, levels, run, start, trace, wait-trace}
+use Rattle.recovery.proofs.Compute.{Met, all-may, are-separated, asked-of, history-meets, is-prefix, may-read, may-rest, meets, met, rest-meets, was-read, words-meet}
+use Rattle.recovery.proofs.Computes.{computes}
+use Rattle.recovery.proofs.Corollaries.{demand}
+use Rattle.recovery.proofs.Recovery.{recovery}
+
+-- a word begins and reset mode comes in mid word; SPCR inverts the line, so that line 1 is off mark and a word begins at once; the format changes in
+-- that word, from 8 data bits and parity to 7 and parity; the line goes to mark, and the word is left, stale
+pub history : List Call
+history =
+    sets-power 3 ∷ writes 0xff98 0x20 ∷ writes 0xffa6 8 ∷ writes 0xff9a 0x10 ∷ sets-line 0 ∷ lets-pass 20 ∷ sets-power 8 ∷ sets-power 3 ∷ sets-line 1
+    ∷ writes 0xff98 0x20 ∷ writes 0xff91 0x01 ∷ writes 0xff9a 0x10 ∷ lets-pass 45 ∷ writes 0xff98 0x60 ∷ sets-line 0 ∷ []
+
+-- 384 halves at mark, in which the stale word ends in a parity error; the flags are read, RDR is read, and the flags are cleared; two calls are refused
+pub rest : List Call
+rest = replicate 48 (lets-pass 8) ++ (reads 0xff9c ∷ reads 0xff9d ∷ writes 0xff9c 0x87 ∷ lets-pass 70000 ∷ sets-power 16 ∷ [])
+
+-- a cell of 32 halves on the inverted line
+send : List Bool → List Call
+send [] = []
+send (b ∷ bs) = sets-line (cond b 0 1) ∷ (replicate 4 (lets-pass 8) ++ send bs)
+
+-- five halves of mark, the word of 0x55, a refused write, RDR read, and with no mark between the word of 0x23, cut after 20 halves of its first stop cell
+pub words : List Call
+words =
+    lets-pass 5 ∷ (send (bits 10 (word (format 0x60 0) 0x55)) ++ (writes 0xff98 300 ∷ reads 0xff9d ∷ passes-inside
+    ∷ (send (bits 9 (word (format 0x60 0) 0x23)) ++ (sets-pins 1 0 ∷ lets-pass 8 ∷ lets-pass 12 ∷ []))))
+
+pub items : List Item
+items = mark 5 ∷ word-of 0x55 ∷ word-of 0x23 ∷ []
+
+-- the test of what is asked, with all that it takes to compute it
+computed : Bool
+unfolding computes spread signal values stop-cells-begun stop-cells-passed tally-after levels completed run wait-trace trace is-prefix may-rest may-read was-read are-separated all-may history-meets rest-meets words-meet asked-of meets history rest send words items
+computed = meets direct history rest words items
+
+-- it meets what is asked
+noisy : Met direct history rest words items
+unfolding computed
+noisy = met direct history rest words items refl
+
+-- and so what is claimed follows
+pub follows : Recovered direct history rest words items
+unfolding Recovers
+follows = recovery history rest words items (noisy .ended) (noisy .rested) (noisy .worded)
+
+pub sentences : Sentences (run direct (run direct start history) rest .port) items (trace direct (run direct (run direct start history) rest) words)
+unfolding Demand
+sentences = demand history rest words items (noisy .ended) (noisy .rested) (noisy .worded)
+
+-- both words completed, the second in a cell that was cut
+r : Wired
+r = run direct (run direct start history) rest
+
+two : completed (trace direct r words) 645 ≡ 2
+unfolding computed completed r
+two = refl
+
+-- the history was noisy: after the 384 halves SSR had TDRE, TEND and a parity error, of the stale word
+parity-error : run direct (run direct start history) (replicate 48 (lets-pass 8)) .port .ssr ≡ 0x8c
+unfolding computed
+parity-error = refl

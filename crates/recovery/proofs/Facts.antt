@@ -1,0 +1,99 @@
+-- Computed facts: single numbers of the statement and of the real port on short lists, so that a mistake that definition and theorem share shows.
+-- Assumes nothing.
+use mathlib.Core.Path.{_≡_, refl}
+use Prim.Native.Nat.{ℕ, suc}
+use mathlib.Core.Bool.{Bool, true, false, cond}
+use mathlib.Core.List.{List, [], _∷_, _++_}
+use lib.Dec.{eqb}
+use lib.ListN.{replicate, length}
+use Rattle.frame.specs.Frame.{bits, format, one-if, word}
+use Rattle.sci.specs.Calls.{Call, direct, lets-pass, sets-line, sets-power, writes}
+use Rattle.recovery.specs.Line.{mark, signal, spread, stop-cells-begun, stop-cells-passed, tally-after, values, word-of}
+use Rattle.recovery.specs.Recovery.{Rest, Wired, completed, levels, run, start, trace, wait-trace}
+use Rattle.recovery.proofs.Compute.{all-may, all-stand, are-separated, asked-of, breaks, history-meets, is-prefix, may-read, may-rest, none-by-8, rest-meets, says, stands, was-read, words-meet}
+use Rattle.recovery.proofs.Computes.{computes}
+use native.Mathlib.Omega.{arith}
+
+-- ---- the line: cells, levels, and the halves of the first stop cell
+-- SMR 4 (five data bits), SEMR 8 (16 halves): start, 1 0 1 0 1, stop; 0x15 and 0x55 have the same data bits
+five : signal (format 4 8) (mark 3 ∷ word-of 0x55 ∷ [])
+    ≡ replicate 3 true ++ (replicate 16 false ++ (replicate 16 true ++ (replicate 16 false ++ (replicate 16 true ++ (replicate 16 false ++ replicate 32 true)))))
+unfolding computes spread signal
+five = refl
+
+five-value : values (format 4 8) (mark 3 ∷ word-of 0x55 ∷ []) ≡ 0x15 ∷ []
+unfolding computes values
+five-value = refl
+
+-- SMR 0, SEMR 0: the first stop cell is halves 289 to 320
+stop-cell : (stop-cells-begun (format 0 0) (word-of 0x55 ∷ []) 288 ∷ stop-cells-begun (format 0 0) (word-of 0x55 ∷ []) 289
+    ∷ stop-cells-passed (format 0 0) (word-of 0x55 ∷ []) 319 ∷ stop-cells-passed (format 0 0) (word-of 0x55 ∷ []) 320 ∷ []) ≡ 0 ∷ 1 ∷ 0 ∷ 1 ∷ []
+unfolding computes stop-cells-begun stop-cells-passed
+stop-cell = refl
+
+-- the tally wraps to zero
+wraps : tally-after 1 0xffffffffffffffff ≡ 0
+unfolding tally-after
+wraps = refl
+
+-- ---- the port: one word of 0x55 on a line that falls after `at` halves; SEMR and SPCR as given, and the level of mark to match
+cell-of : ℕ → List Call
+cell-of semr = cond (eqb semr 8) (lets-pass 8 ∷ lets-pass 8 ∷ []) (replicate 4 (lets-pass 8))
+
+send : ℕ → ℕ → List Bool → List Call
+send semr spcr [] = []
+send semr spcr (b ∷ bs) = sets-line (cond (eqb spcr 1) (cond b 0 1) (one-if b)) ∷ (cell-of semr ++ send semr spcr bs)
+
+set-up : ℕ → ℕ → ℕ → List Call
+set-up semr spcr at = sets-power 3 ∷ writes 0xff91 spcr ∷ writes 0xffa6 semr ∷ sets-line (cond (eqb spcr 1) 0 1) ∷ writes 0xff9a 0x10 ∷ lets-pass at ∷ []
+
+words : ℕ → ℕ → List Call
+words semr spcr = send semr spcr (bits 10 (word (format 0 semr) 0x55))
+
+-- the completions within the first k halves of the word, and within k + 1; the halves of the trace; then the port's half count, RDR, SSR and tally
+report : ℕ → ℕ → ℕ → ℕ → List ℕ
+unfolding computes levels completed run wait-trace trace cell-of send set-up words
+report semr spcr at k =
+    let s = run direct start (set-up semr spcr at) in
+    let ms = trace direct s (words semr spcr) in
+    let p = run direct s (words semr spcr) .port in
+    completed ms k ∷ completed ms (suc k) ∷ length (levels ms) ∷ p .half ∷ p .rdr ∷ p .ssr ∷ p .received ∷ []
+
+-- a cell of 32 halves: the stop sample is half 304 of the word if the word begins after an even half, and 305 after an odd one
+even : report 0 0 100 303 ≡ 0 ∷ 1 ∷ 320 ∷ 420 ∷ 0x55 ∷ 0xc4 ∷ 1 ∷ []
+unfolding report
+even = refl
+
+odd : report 0 0 101 304 ≡ 0 ∷ 1 ∷ 320 ∷ 421 ∷ 0x55 ∷ 0xc4 ∷ 1 ∷ []
+unfolding report
+odd = refl
+
+-- SEMR bit 3: a cell of 16 halves; the first stop cell is halves 145 to 160, sampled at 152
+fast : report 8 0 100 151 ≡ 0 ∷ 1 ∷ 160 ∷ 260 ∷ 0x55 ∷ 0xc4 ∷ 1 ∷ []
+unfolding report
+fast = refl
+
+-- SPCR bit 0: the same with the line inverted
+inverted : report 8 1 100 151 ≡ 0 ∷ 1 ∷ 160 ∷ 260 ∷ 0x55 ∷ 0xc4 ∷ 1 ∷ []
+unfolding report
+inverted = refl
+
+-- ---- the rest: 383 halves are no rest
+h : Wired
+h = run direct start (set-up 0 0 0)
+
+short : length (levels (trace direct h (replicate 42 (lets-pass 9) ++ (lets-pass 5 ∷ [])))) ≡ 383
+unfolding report h
+short = refl
+
+no-rest : Rest direct h (replicate 42 (lets-pass 9) ++ (lets-pass 5 ∷ [])) → ⊥
+no-rest rs = omega (arith, short, rs .long)
+
+-- and with 256 for 384 the claim would be false. A word of 8 data bits and parity is in the receiver at history's end, its start cell just sampled. After
+-- 256 halves at mark it is there still, with no flag set, and takes the first cells of the next word for its own
+too-early : List Call
+too-early = sets-power 3 ∷ writes 0xff98 0x20 ∷ writes 0xff9a 0x10 ∷ sets-line 0 ∷ lets-pass 17 ∷ sets-line 1 ∷ []
+
+with-256 : breaks direct 256 too-early (replicate 32 (lets-pass 8)) (send 0 0 (bits 4 (word (format 0x20 0) 0x55))) (word-of 0x55 ∷ []) ≡ true
+unfolding report too-early spread signal values stop-cells-begun stop-cells-passed tally-after is-prefix may-rest may-read was-read are-separated all-may history-meets rest-meets words-meet asked-of says stands all-stand none-by-8 breaks
+with-256 = refl

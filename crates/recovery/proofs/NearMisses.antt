@@ -1,0 +1,90 @@
+-- The near misses (specs/NearMisses.antt), each by one worked list: it meets what is asked, and of the port in question what is claimed fails.
+-- Assumes nothing.
+use mathlib.Core.Path.{refl}
+use Prim.Native.Nat.{ℕ, zero, suc}
+use mathlib.Core.Bool.{Bool}
+use mathlib.Core.List.{List, [], _∷_, _++_}
+use lib.ListN.{replicate}
+use Rattle.sci.specs.declared.Port.{Port}
+use Rattle.frame.specs.Frame.{bits, format, one-if, word}
+use Rattle.sci.specs.Calls.{Answer, Call, lets-pass, reads, sets-line, sets-power, writes}
+use Rattle.recovery.specs.Line.{Item, signal, spread, stop-cells-begun, stop-cells-passed, tally-after, values, word-of}
+use Rattle.recovery.specs.NearMisses.{NearMisses, counts-none, counts-two, deaf, halves-by, nothing-at-a-half, nothing-untested, rdr-never-varies, repeat, tally-stands, two-completions}
+use Rattle.recovery.specs.Recovery.{Recovers, levels, run, trace, wait-trace}
+use Rattle.recovery.proofs.Compute.{all-may, all-stand, are-separated, asked-of, breaks, history-meets, is-prefix, may-read, may-rest, none-by-8, refuted, rest-meets, says, stands, was-read, words-meet}
+use Rattle.recovery.proofs.Computes.{computes}
+
+-- the cells of a word, 16 halves each, in waits of eight
+send : List Bool → List Call
+send [] = []
+send (b ∷ bs) = sets-line (one-if b) ∷ (lets-pass 8 ∷ lets-pass 8 ∷ send bs)
+
+-- n halves one by one, RDR read after each
+by-halves : ℕ → List Call
+by-halves zero = []
+by-halves (suc n) = lets-pass 1 ∷ reads 0xff9d ∷ by-halves n
+
+-- module and main clock on, five data bits, a cell of 16 halves, RE: so the list is short
+history : List Call
+history = sets-power 3 ∷ writes 0xff98 4 ∷ writes 0xffa6 8 ∷ writes 0xff9a 0x10 ∷ []
+
+-- 384 halves
+rest : List Call
+rest = replicate 48 (lets-pass 8)
+
+-- the word of 0x15, RDR read after each half of its stop cell
+words : List Call
+words = send (bits 6 (word (format 4 8) 0x15)) ++ (sets-line 1 ∷ by-halves 16)
+
+items : List Item
+items = word-of 0x15 ∷ []
+
+-- the test on this list, with all that it takes to compute it
+computed : (Call → Port → Answer) → Bool
+unfolding computes spread signal values stop-cells-begun stop-cells-passed tally-after levels run wait-trace trace is-prefix may-rest may-read was-read are-separated all-may history-meets rest-meets words-meet asked-of says stands all-stand none-by-8 breaks repeat halves-by deaf rdr-never-varies tally-stands send by-halves history rest words items
+computed port = breaks port 384 history rest words items
+
+nothing-at-a-half-fails : Recovers nothing-at-a-half → ⊥
+unfolding computed
+nothing-at-a-half-fails = refuted nothing-at-a-half history rest words items refl
+
+nothing-untested-fails : Recovers nothing-untested → ⊥
+unfolding computed
+nothing-untested-fails = refuted nothing-untested history rest words items refl
+
+counts-two-fails : Recovers counts-two → ⊥
+unfolding computed
+counts-two-fails = refuted counts-two history rest words items refl
+
+counts-none-fails : Recovers counts-none → ⊥
+unfolding computed
+counts-none-fails = refuted counts-none history rest words items refl
+
+two-completions-fails : Recovers two-completions → ⊥
+unfolding computed
+two-completions-fails = refuted two-completions history rest words items refl
+
+deaf-fails : Recovers deaf → ⊥
+unfolding computed
+deaf-fails = refuted deaf history rest words items refl
+
+rdr-never-varies-fails : Recovers rdr-never-varies → ⊥
+unfolding computed
+rdr-never-varies-fails = refuted rdr-never-varies history rest words items refl
+
+tally-stands-fails : Recovers tally-stands → ⊥
+unfolding computed
+tally-stands-fails = refuted tally-stands history rest words items refl
+
+pub near-misses : NearMisses
+near-misses =
+    record {
+      not-nothing-at-a-half = nothing-at-a-half-fails;
+      not-nothing-untested = nothing-untested-fails;
+      not-counts-two = counts-two-fails;
+      not-counts-none = counts-none-fails;
+      not-two-completions = two-completions-fails;
+      not-deaf = deaf-fails;
+      not-rdr-never-varies = rdr-never-varies-fails;
+      not-tally-stands = tally-stands-fails;
+    }

@@ -1,0 +1,4 @@
+pub mod Line
+pub mod Recovery
+pub mod Corollaries
+pub mod NearMisses

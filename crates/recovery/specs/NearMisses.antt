@@ -1,0 +1,93 @@
+-- Ports that fall short, each built from the real one, and that the claim (specs/Recovery.antt) is false of each: proved in proofs/NearMisses.antt.
+-- Assumes nothing.
+use Prim.Native.Nat.{ℕ, zero, suc}
+use mathlib.Core.Bool.{cond, not, _&&_}
+use Rattle.sci.specs.declared.Due.the-variants.{At}
+use Rattle.sci.specs.declared.Port.{Port}
+use Rattle.sci.specs.declared.Receiver.{Receiver}
+use Rattle.sci.specs.declared.Receiver.the-variants.{Busy, Idle}
+use Rattle.frame.specs.Frame.{one-if}
+use Rattle.sci.specs.Baud.{counted, internal}
+use Rattle.sci.specs.Calls.{Answer, Call, called, direct, done, lets-pass, passes-inside, reads, refused, sets-line, sets-pins, sets-power, writes}
+use Rattle.sci.specs.Fields.{with-rdr, with-received, with-rx}
+use Rattle.sci.specs.Half.{half-step}
+use Rattle.recovery.specs.Recovery.{Recovers, completes}
+
+-- ---- ports with another half
+unfoldable pub repeat : (Port → Port) → ℕ → Port → Port
+repeat step zero p = p
+repeat step (suc n) p = repeat step n (step p)
+
+-- a wait's answer, where halves passed: these instead
+abbrev pub waits-by : (Port → Port) → ℕ → Answer → Port → Answer
+waits-by step n (done v q) p = done v (cond (internal p) (repeat step n p) q)
+waits-by step n (refused k offset q) p = refused k offset q
+
+-- a port with `step` for what it does at a half
+unfoldable pub halves-by : (Call → Port → Answer) → (Port → Port) → Call → Port → Answer
+halves-by port step (lets-pass n) p = waits-by step n (port (lets-pass n) p) p
+halves-by port step (reads a) p = port (reads a) p
+halves-by port step (writes a v) p = port (writes a v) p
+halves-by port step (sets-line b) p = port (sets-line b) p
+halves-by port step (sets-pins c b) p = port (sets-pins c b) p
+halves-by port step (sets-power b) p = port (sets-power b) p
+halves-by port step passes-inside p = port passes-inside p
+
+-- it does nothing at a half: it only counts. With the field test (test 8), and without
+abbrev pub nothing-at-a-half : Call → Port → Answer
+nothing-at-a-half = halves-by direct counted
+
+abbrev pub nothing-untested : Call → Port → Answer
+nothing-untested = halves-by called counted
+
+-- every half counts two, or none
+abbrev pub counts-two : Call → Port → Answer
+counts-two = halves-by direct (λ p. half-step (half-step p))
+
+abbrev pub counts-none : Call → Port → Answer
+counts-none = halves-by direct (λ p. p)
+
+-- two completions for one word: the first, which falls on a half of low phase, leaves the word in the receiver for one half more
+abbrev pub one-half-more : Receiver → ℕ → Receiver
+one-half-more Idle h = Idle
+one-half-more (Busy r) h =
+    Busy (record { format = r .format; value = r .value; position = r .position; parity = r .parity; error = r .error; next = At (suc h) })
+
+abbrev pub completes-twice : Port → Port
+completes-twice p = cond (completes p && not (p .high)) (with-rx (half-step p) (one-half-more (p .rx) (suc (p .half)))) (half-step p)
+
+abbrev pub two-completions : Call → Port → Answer
+two-completions = halves-by direct completes-twice
+
+-- ---- ports with another answer
+abbrev pub answers-by : (Port → Port) → Answer → Answer
+answers-by f (done v q) = done v (f q)
+answers-by f (refused n offset q) = refused n offset q
+
+-- deaf: kinds 4 and 5 leave the line as it was
+unfoldable pub deaf : Call → Port → Answer
+deaf (sets-line b) p = direct (sets-line (one-if (p .input))) p
+deaf (sets-pins c b) p = direct (sets-pins c (one-if (p .input))) p
+deaf (reads a) p = direct (reads a) p
+deaf (writes a v) p = direct (writes a v) p
+deaf (lets-pass n) p = direct (lets-pass n) p
+deaf (sets-power b) p = direct (sets-power b) p
+deaf passes-inside p = direct passes-inside p
+
+-- RDR never varies; the tally of words received stands
+unfoldable pub rdr-never-varies : Call → Port → Answer
+rdr-never-varies c p = answers-by (λ q. with-rdr q (p .rdr)) (direct c p)
+
+unfoldable pub tally-stands : Call → Port → Answer
+tally-stands c p = answers-by (λ q. with-received q (p .received)) (direct c p)
+
+-- ---- the claim is false of each
+pub record NearMisses : Type 0 where
+  pub not-nothing-at-a-half : Recovers nothing-at-a-half → ⊥
+  pub not-nothing-untested : Recovers nothing-untested → ⊥
+  pub not-counts-two : Recovers counts-two → ⊥
+  pub not-counts-none : Recovers counts-none → ⊥
+  pub not-two-completions : Recovers two-completions → ⊥
+  pub not-deaf : Recovers deaf → ⊥
+  pub not-rdr-never-varies : Recovers rdr-never-varies → ⊥
+  pub not-tally-stands : Recovers tally-stands → ⊥
