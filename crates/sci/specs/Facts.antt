@@ -207,29 +207,30 @@ unfolding cells-on-line
 words-on-line spcr cell n [] = []
 words-on-line spcr cell n (w ∷ ws) = cells-on-line spcr cell n w ++ words-on-line spcr cell n ws
 
--- SMR, SEMR and its cell length, SPCR, the number of cells, words of so many, none read; SSR and RDR at the end
+-- SMR, SEMR and its cell length, SPCR, the number of cells, words of so many, none read; SSR, RDR and the tally of words received at the end
 pub data Received : Type 0 where
-  receives : ℕ → ℕ → ℕ → ℕ → ℕ → List ℕ → ℕ → ℕ → Received
+  receives : ℕ → ℕ → ℕ → ℕ → ℕ → List ℕ → ℕ → ℕ → ℕ → Received
 
 unfoldable pub as-received : Received → Bool
 unfolding after-calls words-on-line
-as-received (receives smr semr cell spcr n ws ssr rdr) =
-    let p : Port = after-calls (receiving smr semr spcr ++ words-on-line spcr cell n ws) in eqb (p .ssr) ssr && eqb (p .rdr) rdr
+as-received (receives smr semr cell spcr n ws ssr rdr tally) =
+    let p : Port = after-calls (receiving smr semr spcr ++ words-on-line spcr cell n ws) in
+    eqb (p .ssr) ssr && (eqb (p .rdr) rdr && eqb (p .received) tally)
 
 -- document 01's words; 0x2AA in cells of 16 halves, and inverted; then framing faults: 0xC4 becomes 0xF4 with RDR kept, 0x84 becomes 0x94 with RDR written;
 -- and a parity fault
 pub words-received : every as-received
-    (receives 0x00 0 32 0 10 (0x2AA ∷ []) 0xc4 0x55
-    ∷ receives 0x20 0 32 0 11 (0x602 ∷ []) 0xc4 0x01
-    ∷ receives 0x30 0 32 0 11 (0x402 ∷ []) 0xc4 0x01
-    ∷ receives 0x24 0 32 0 7 (0x7E ∷ []) 0xc4 0x1F
-    ∷ receives 0x64 0 32 0 8 (0xFE ∷ []) 0xc4 0x1F
-    ∷ receives 0x48 0 32 0 10 (0x300 ∷ []) 0xc4 0x00
-    ∷ receives 0x00 8 16 0 10 (0x2AA ∷ []) 0xc4 0x55
-    ∷ receives 0x00 0 32 1 10 (0x2AA ∷ []) 0xc4 0x55
-    ∷ receives 0x00 0 32 0 10 (0x2AA ∷ 0x0CC ∷ []) 0xf4 0x55
-    ∷ receives 0x00 0 32 0 10 (0x0AA ∷ []) 0x94 0x55
-    ∷ receives 0x20 0 32 0 11 (0x402 ∷ []) 0x8c 0x01
+    (receives 0x00 0 32 0 10 (0x2AA ∷ []) 0xc4 0x55 1
+    ∷ receives 0x20 0 32 0 11 (0x602 ∷ []) 0xc4 0x01 1
+    ∷ receives 0x30 0 32 0 11 (0x402 ∷ []) 0xc4 0x01 1
+    ∷ receives 0x24 0 32 0 7 (0x7E ∷ []) 0xc4 0x1F 1
+    ∷ receives 0x64 0 32 0 8 (0xFE ∷ []) 0xc4 0x1F 1
+    ∷ receives 0x48 0 32 0 10 (0x300 ∷ []) 0xc4 0x00 1
+    ∷ receives 0x00 8 16 0 10 (0x2AA ∷ []) 0xc4 0x55 1
+    ∷ receives 0x00 0 32 1 10 (0x2AA ∷ []) 0xc4 0x55 1
+    ∷ receives 0x00 0 32 0 10 (0x2AA ∷ 0x0CC ∷ []) 0xf4 0x55 1
+    ∷ receives 0x00 0 32 0 10 (0x0AA ∷ []) 0x94 0x55 0
+    ∷ receives 0x20 0 32 0 11 (0x402 ∷ []) 0x8c 0x01 0
     ∷ [])
     ≡ true
 unfolding every as-received
