@@ -15,7 +15,6 @@ use Rattle.sci.specs.Baud.{edge-counts}
 use Rattle.sci.specs.Pins.{pins-change, receive-input, external-edge}
 use Rattle.sci.specs.Valid.{limit, valid}
 use Rattle.sci.specs.Calls.{Answer, done}
-use Rattle.sci.specs.Ready.{Ready}
 use Rattle.sci.proofs.Checked.{flag-ready, edge-below}
 
 pub done-eq : (z : Answer) (v w : ℕ) (p q : Port) → z ≡ done v p → v ≡ w → p ≡ q → z ≡ done w q

@@ -30,15 +30,15 @@ use Rattle.sci.specs.declared.Sampled.{Sampled}
 use Rattle.sci.specs.declared.Sampled.the-variants.{Dropped, Onward, Whole}
 use Rattle.sci.specs.declared.Tx.{Tx}
 use Rattle.sci.specs.declared.Tx.the-variants.{Off, Blocked, Mark, Start, Data, Tail}
-use Rattle.sci.specs.Fields.{with-tx, with-rx, with-input, with-input-clock}
-use Rattle.sci.specs.Baud.{format-of, external, counted, edge-counted, edge-counts, next-fall, boundary}
+use Rattle.sci.specs.Fields.{with-tx, with-rx, with-input}
+use Rattle.sci.specs.Baud.{format-of, counted, edge-counted, edge-counts, next-fall, boundary}
 use Rattle.sci.specs.Receiver.{next-position, input-level, error-free, due-now, armed, sample-at, sample, arms, arm-receive-on, arm-receive, complete-receive, after-sample, advance-rx-on, advance-rx}
 use Rattle.sci.specs.Sender.{level, holds, loaded-on, preloaded-on, loaded, preloaded, preload, drive, begin, start-at, start-loaded, try-start-on, try-start, one-sent, finish-tail, tailed, next-cell, tx-next, send-step-on, advance-tx}
 use Rattle.sci.specs.Clocked.{with-clock, refresh-sync-clock, last-bit, bit-taken, take-bit, clocked-word, receive-bit-on, receive-bit, tail-ends-on, tail-ends, bit-out, shift-out-on, shift-out, sync-edge}
-use Rattle.sci.specs.Half.{process-basic, rx-due-on, sync, clocked-edge, advance, half-step, halves, inside, uncounted}
-use Rattle.sci.specs.Registers.{scr-tx, scr-rx, write-scr, write-tdr, status-with, status-write, stored, connect, load-tail-on, load-tail, settled, write}
-use Rattle.sci.specs.Power.{fresh, reset-registers, reset, with-power, set-power}
-use Rattle.sci.specs.Pins.{receive-input, external-edge}
+use Rattle.sci.specs.Half.{process-basic, rx-due-on, sync, clocked-edge, advance, half-step, halves}
+use Rattle.sci.specs.Registers.{scr-tx, scr-rx, write-scr, write-tdr, status-with, status-write, stored, connect, load-tail-on, load-tail}
+use Rattle.sci.specs.Power.{fresh, reset-registers, reset, with-power}
+use Rattle.sci.specs.Pins.{receive-input}
 use Rattle.sci.specs.Valid.{limit, position-valid}
 use Rattle.sci.specs.Ready.{Bounded, Plain, Placed, PlacedIn, LoadedBounded, Sendable, Ready}
 use Rattle.sci.proofs.Steps.{valid-bounded}
@@ -363,13 +363,6 @@ module _ {n : ℕ} {p : Port} (r : Ready n p) (h : n < limit) where
   unfolding half-step
   keep-half-step = keep-advance (keep-sync (keep-counted r h))
 
-pub keep-halves : (k : ℕ) {n : ℕ} {p : Port} → Ready n p → n + k ≤ limit → Ready (n + k) (halves k p)
-unfolding halves
-keep-halves zero {n} {p} r h = let e : n ≡ n + 0 = omega arith in subst (λ (m : ℕ). Ready m p) e r
-keep-halves (suc k) {n} {p} r h =
-    let e : suc n + k ≡ n + suc k = omega arith in
-    subst (λ (m : ℕ). Ready m (halves k (half-step p))) e (keep-halves k (keep-half-step r (omega arith)) (omega arith))
-
 -- the half that a loop adds comes last, the definition's first
 pub halves-last : (k : ℕ) (p : Port) → halves (suc k) p ≡ half-step (halves k p)
 unfolding halves
@@ -418,23 +411,6 @@ module _ {n : ℕ} {p : Port} (r : Ready n p) where
   unfolding stored
   keep-stored a v = search (keep-cond, keep-write-scr, keep-write-tdr, keep-status-write, needs) depth 14
 
-  pub keep-settled : Ready n (settled p)
-  unfolding settled
-  keep-settled = keep-refresh-sync-clock (keep-arm-receive (keep-try-start (keep-load-tail r)))
-
-  pub keep-inside : Ready n (inside p)
-  keep-inside = keep-same r (inside p) refl refl refl
-
-  pub keep-uncounted : (k : ℕ) → Ready n (uncounted k p)
-  keep-uncounted zero = r
-  keep-uncounted (suc k) = keep-inside
-
-module _ {n : ℕ} {p : Port} (r : Ready n p) where
-  pub keep-write : (a v : ℕ) → Ready n (write a v p)
-  unfolding write
-  keep-write a v =
-      both (Ready n) (p .«module» && not (p .«reset_mode»)) (keep-settled (keep-connect (keep-stored r a v) (external p))) r
-
 -- ---- the pins
 module _ {n : ℕ} {p : Port} (r : Ready n p) where
   pub keep-receive-input : (level : Bool) → Ready n (receive-input level p)
@@ -442,41 +418,12 @@ module _ {n : ℕ} {p : Port} (r : Ready n p) where
   keep-receive-input level =
       both (Ready n) (differ level (p .input)) (keep-arm-receive (keep-same r (with-input p level) refl refl refl)) r
 
-  pub keep-input-clock : (level : Bool) → Ready n (with-input-clock p level)
-  keep-input-clock level = keep-same r (with-input-clock p level) refl refl refl
-
-  pub keep-power : (module-on main-on sub-on reset-on : Bool) → Ready n (with-power p module-on main-on sub-on reset-on)
-  keep-power a b c d = keep-same r (with-power p a b c d) refl refl refl
-
 -- ---- steps after which the half is the port's own: a counted edge adds one, a reset begins again at 0
 abbrev Own : Port → Type 0
 Own p = Ready (p .half) p
 
 pub own : (p : Port) (n : ℕ) → Ready n p → Own p
 own p n h = subst (λ (m : ℕ). Ready m p) (sym (h .half≡)) h
-
-module _ {p : Port} (r : Own p) where
-  pub keep-external-edge : (level : Bool) → (edge-counts level p ≡ true → p .half < limit) → Own (external-edge level p)
-  unfolding external-edge
-  keep-external-edge level h =
-      either Own (edge-counts level p)
-      (λ e. own _ _ (keep-refresh-sync-clock (keep-sync-edge (keep-process-basic (keep-edge-counted r level (h e))) level)))
-      (λ _. r)
-
-  pub keep-reset-registers : (spcr : ℕ) → Own (reset-registers spcr p)
-  unfolding reset-registers fresh
-  keep-reset-registers spcr = record { half≡ = refl; half≤ = zero-le; placed = tt; sendable = tt }
-
-  pub keep-reset : (module-on reset-on : Bool) → Own (reset module-on reset-on p)
-  unfolding reset
-  keep-reset module-on reset-on =
-      both Own (not module-on && p .«module») (keep-reset-registers 0xc0)
-      (both Own (reset-on && not (p .«reset_mode»)) (keep-reset-registers (p .spcr)) r)
-
-module _ {p : Port} (r : Own p) where
-  pub keep-set-power : (module-on main-on sub-on reset-on : Bool) → Own (set-power module-on main-on sub-on reset-on p)
-  unfolding set-power
-  keep-set-power a b c d = own _ _ (keep-refresh-sync-clock (keep-power (keep-reset r a d) a b c d))
 
 -- ---- at a call: what a ready port gives
 pub ready-half : (p : Port) → Ready (p .half) p → p .half ≤ limit
@@ -492,41 +439,8 @@ ready-rx p r = r .placed
 result : {n : ℕ} (r q : Port) → r ≡ q → Ready n q → Ready (r .half) r
 result {n} r q e h = subst⁻¹ Own e (own q n h)
 
-pub with-tx-ready : (r p : Port) (t : Tx) → r ≡ with-tx p t → Sendable t → Ready (p .half) p → Ready (r .half) r
-with-tx-ready r p t e s h = result r (with-tx p t) e (keep-tx h t s)
-
-pub with-rx-ready : (r p : Port) (x : Receiver) → r ≡ with-rx p x → PlacedIn x → Ready (p .half) p → Ready (r .half) r
-with-rx-ready r p x e s h = result r (with-rx p x) e (keep-rx h x s)
-
-pub drive-ready : (r p : Port) (high : Bool) → r ≡ drive p high → Ready (p .half) p → Ready (r .half) r
-drive-ready r p high e h = result r (drive p high) e (keep-drive h high)
-
-pub preloaded-ready : (r p : Port) → r ≡ preloaded p → Ready (p .half) p → Ready (r .half) r
-preloaded-ready r p e h = result r (preloaded p) e (keep-preloaded h)
-
-pub begin-ready : (r p : Port) (k : Character) → r ≡ begin p k → Bounded (k .format) → Ready (p .half) p → Ready (r .half) r
-begin-ready r p k e f h = result r (begin p k) e (keep-begin h k f)
-
-pub start-at-ready : (r p : Port) (k : Character) (next : ℕ) → r ≡ start-at p k next → Bounded (k .format) → Ready (p .half) p → Ready (r .half) r
-start-at-ready r p k next e f h = result r (start-at p k next) e (keep-start-at h k next f)
-
-pub start-loaded-ready : (r p : Port) (l : Loaded) → r ≡ start-loaded l p → LoadedBounded l → Ready (p .half) p → Ready (r .half) r
-start-loaded-ready r p l e f h = result r (start-loaded l p) e (keep-start-loaded h l f)
-
 pub try-start-ready : (r p : Port) → r ≡ try-start p → Ready (p .half) p → Ready (r .half) r
 try-start-ready r p e h = result r (try-start p) e (keep-try-start h)
-
-pub one-sent-ready : (r p : Port) → r ≡ one-sent p → Ready (p .half) p → Ready (r .half) r
-one-sent-ready r p e h = result r (one-sent p) e (keep-sent h)
-
-pub finish-tail-ready : (r p : Port) (l : Loaded) → r ≡ finish-tail l p → LoadedBounded l → Ready (p .half) p → Ready (r .half) r
-finish-tail-ready r p l e f h = result r (finish-tail l p) e (keep-finish-tail h l f)
-
-pub next-cell-ready : (r p : Port) (k : Character) (cell : ℕ) → r ≡ next-cell k cell p → Bounded (k .format) → cell ≤ stop (k .format) → Ready (p .half) p → Ready (r .half) r
-next-cell-ready r p k cell e f c h = result r (next-cell k cell p) e (keep-next-cell h k cell f c)
-
-pub send-step-ready : (r p : Port) → r ≡ send-step-on (p .tx) p → due-now (tx-next (p .tx)) (p .half) ≡ true → Ready (p .half) p → Ready (r .half) r
-send-step-ready r p e d h = result r (send-step-on (p .tx) p) e (keep-send-step h d)
 
 pub advance-tx-ready : (r p : Port) → r ≡ advance-tx p → Ready (p .half) p → Ready (r .half) r
 advance-tx-ready r p e h = result r (advance-tx p) e (keep-advance-tx h)
@@ -534,32 +448,11 @@ advance-tx-ready r p e h = result r (advance-tx p) e (keep-advance-tx h)
 pub arm-receive-ready : (r p : Port) → r ≡ arm-receive p → Ready (p .half) p → Ready (r .half) r
 arm-receive-ready r p e h = result r (arm-receive p) e (keep-arm-receive h)
 
-pub complete-receive-ready : (r p : Port) (x : Rx) → r ≡ complete-receive p x → Ready (p .half) p → Ready (r .half) r
-complete-receive-ready r p x e h = result r (complete-receive p x) e (keep-complete-receive h x)
-
-pub after-sample-ready : (r p : Port) (s : Sampled) → r ≡ after-sample s p → PlacedBy s → Ready (p .half) p → Ready (r .half) r
-after-sample-ready r p s e b h = result r (after-sample s p) e (keep-after-sample h s b)
-
 pub advance-rx-ready : (r p : Port) → r ≡ advance-rx p → Ready (p .half) p → Ready (r .half) r
 advance-rx-ready r p e h = result r (advance-rx p) e (keep-advance-rx h)
 
-pub refresh-sync-clock-ready : (r p : Port) → r ≡ refresh-sync-clock p → Ready (p .half) p → Ready (r .half) r
-refresh-sync-clock-ready r p e h = result r (refresh-sync-clock p) e (keep-refresh-sync-clock h)
-
-pub take-bit-ready : (r p : Port) (x : Rx) → r ≡ take-bit p x → Placed x → x .format .synchronous ≡ true → Ready (p .half) p → Ready (r .half) r
-take-bit-ready r p x e b s h = result r (take-bit p x) e (keep-take-bit h x b s)
-
 pub receive-bit-ready : (r p : Port) → r ≡ receive-bit p → Ready (p .half) p → Ready (r .half) r
 receive-bit-ready r p e h = result r (receive-bit p) e (keep-receive-bit h)
-
-pub tail-ends-ready : (r p : Port) → r ≡ tail-ends p → Ready (p .half) p → Ready (r .half) r
-tail-ends-ready r p e h = result r (tail-ends p) e (keep-tail-ends h)
-
-pub bit-out-ready : (r p : Port) (k : Character) (cell : ℕ) → r ≡ bit-out k cell p → Bounded (k .format) → cell ≤ 7 → Ready (p .half) p → Ready (r .half) r
-bit-out-ready r p k cell e f c h = result r (bit-out k cell p) e (keep-bit-out h k cell f c)
-
-pub shift-out-ready : (r p : Port) → r ≡ shift-out p → Ready (p .half) p → Ready (r .half) r
-shift-out-ready r p e h = result r (shift-out p) e (keep-shift-out h)
 
 pub sync-edge-ready : (r p : Port) (high : Bool) → r ≡ sync-edge high p → Ready (p .half) p → Ready (r .half) r
 sync-edge-ready r p high e h = result r (sync-edge high p) e (keep-sync-edge h high)
@@ -573,17 +466,8 @@ sync-ready r p e h = result r (sync p) e (keep-sync h)
 pub clocked-edge-ready : (r p : Port) → r ≡ clocked-edge p → Ready (p .half) p → Ready (r .half) r
 clocked-edge-ready r p e h = result r (clocked-edge p) e (keep-clocked-edge h)
 
-pub advance-ready : (r p : Port) → r ≡ advance p → Ready (p .half) p → Ready (r .half) r
-advance-ready r p e h = result r (advance p) e (keep-advance h)
-
 pub edge-counted-ready : (r p : Port) (high : Bool) → r ≡ edge-counted p high → p .half < limit → Ready (p .half) p → Ready (r .half) r
 edge-counted-ready r p high e l h = result r (edge-counted p high) e (keep-edge-counted h high l)
-
-pub half-step-ready : (r p : Port) → r ≡ half-step p → p .half < limit → Ready (p .half) p → Ready (r .half) r
-half-step-ready r p e l h = result r (half-step p) e (keep-half-step h l)
-
-pub halves-ready : (r p : Port) (k : ℕ) → r ≡ halves k p → p .half + k ≤ limit → Ready (p .half) p → Ready (r .half) r
-halves-ready r p k e l h = result r (halves k p) e (keep-halves k h l)
 
 pub stored-ready : (r p : Port) (a v : ℕ) → r ≡ stored a v p → Ready (p .half) p → Ready (r .half) r
 stored-ready r p a v e h = result r (stored a v p) e (keep-stored h a v)
@@ -594,43 +478,11 @@ connect-ready r p was e h = result r (connect was p) e (keep-connect h was)
 pub load-tail-ready : (r p : Port) → r ≡ load-tail p → Ready (p .half) p → Ready (r .half) r
 load-tail-ready r p e h = result r (load-tail p) e (keep-load-tail h)
 
-pub settled-ready : (r p : Port) → r ≡ settled p → Ready (p .half) p → Ready (r .half) r
-settled-ready r p e h = result r (settled p) e (keep-settled h)
-
-pub write-ready : (r p : Port) (a v : ℕ) → r ≡ write a v p → Ready (p .half) p → Ready (r .half) r
-write-ready r p a v e h = result r (write a v p) e (keep-write h a v)
-
 pub receive-input-ready : (r p : Port) (level : Bool) → r ≡ receive-input level p → Ready (p .half) p → Ready (r .half) r
 receive-input-ready r p level e h = result r (receive-input level p) e (keep-receive-input h level)
 
-pub external-edge-ready : (r p : Port) (level : Bool) → r ≡ external-edge level p → (edge-counts level p ≡ true → p .half < limit) → Ready (p .half) p → Ready (r .half) r
-external-edge-ready r p level e l h = result r (external-edge level p) e (keep-external-edge h level l)
-
-pub inside-ready : (r p : Port) → r ≡ inside p → Ready (p .half) p → Ready (r .half) r
-inside-ready r p e h = result r (inside p) e (keep-inside h)
-
-pub uncounted-ready : (r p : Port) (k : ℕ) → r ≡ uncounted k p → Ready (p .half) p → Ready (r .half) r
-uncounted-ready r p k e h = result r (uncounted k p) e (keep-uncounted h k)
-
-pub reset-registers-ready : (r p : Port) (spcr : ℕ) → r ≡ reset-registers spcr p → Ready (p .half) p → Ready (r .half) r
-reset-registers-ready r p spcr e h = result r (reset-registers spcr p) e (keep-reset-registers h spcr)
-
-pub reset-ready : (r p : Port) (module-on reset-on : Bool) → r ≡ reset module-on reset-on p → Ready (p .half) p → Ready (r .half) r
-reset-ready r p module-on reset-on e h = result r (reset module-on reset-on p) e (keep-reset h module-on reset-on)
-
-pub with-power-ready : (r p : Port) (a b c d : Bool) → r ≡ with-power p a b c d → Ready (p .half) p → Ready (r .half) r
-with-power-ready r p a b c d e h = result r (with-power p a b c d) e (keep-power h a b c d)
-
-pub set-power-ready : (r p : Port) (a b c d : Bool) → r ≡ set-power a b c d p → Ready (p .half) p → Ready (r .half) r
-set-power-ready r p a b c d e h = result r (set-power a b c d p) e (keep-set-power h a b c d)
-
 pub with-clock-ready : (r p : Port) (next : Due) (high : Bool) → r ≡ with-clock p next high → Ready (p .half) p → Ready (r .half) r
 with-clock-ready r p next high e h = result r (with-clock p next high) e (keep-clock h next high)
-
--- a sample's outcome
-pub sampled-placed : (s : Sampled) (now : Format) (high : Bool) (half : ℕ) (x : Rx) → s ≡ sample now high half x → Bounded now → Placed x
-    → x .format .synchronous ≡ false → PlacedBy s
-sampled-placed s now high half x e b h c = subst⁻¹ PlacedBy e (sample-placed now high half x b h c)
 
 -- an edge that a call's flag says to count
 pub counts-below : (b : Bool) (level : Bool) (p : Port) → b ≡ edge-counts level p → b ≡ true → (edge-counts level p ≡ true → p .half < limit) → p .half < limit

@@ -4,7 +4,7 @@
 use mathlib.Core.Path.{_≡_, refl, sym, ap, ap₂, _∙_, subst}
 use mathlib.Core.Bool.{Bool, true, false, not, cond, _&&_, _||_, true≢false, false≢true}
 use Prim.Native.Nat.{ℕ, zero, suc, _+_, _-_, _*_, _%_, _^_, _<_, _≤_, zero-le}
-use native.Mathlib.Nat.{one-mul, mod-eq-of-lt, lt-trans, le-trans}
+use native.Mathlib.Nat.{one-mul, mod-eq-of-lt, lt-trans}
 use native.Mathlib.Omega.{arith}
 use lib.Bits.{bitOr}
 use lib.Dec.{T, eqb, ltb, leb, lit<, lit≤, le→leb, ltb→lt}

@@ -2,7 +2,7 @@
 -- Assumes nothing.
 use mathlib.Core.Path.{_≡_, refl, sym, ap, ap₂, _∙_, subst, subst⁻¹}
 use mathlib.Core.Bool.{Bool, true, false, not, cond, _&&_, _||_}
-use Prim.Native.Nat.{ℕ, zero, suc, _+_, _*_, _/_, _%_, _^_, _≤_, _<_, zero-le}
+use Prim.Native.Nat.{ℕ, zero, suc, _+_, _*_, _/_, _%_, _^_, _≤_, zero-le}
 use native.Mathlib.Nat.{mod-le, le-trans, mul-le-mul-left, mul-le-mul-right}
 use native.Mathlib.Numerals.{add-one}
 use native.Mathlib.Omega.{arith}
@@ -21,12 +21,11 @@ use Rattle.sci.specs.declared.Due.{Due}
 use Rattle.sci.specs.declared.Due.the-variants.{Never, At}
 use Rattle.sci.specs.declared.Character.{Character}
 use Rattle.sci.specs.declared.Loaded.{Loaded}
-use Rattle.sci.specs.declared.Loaded.the-variants.{Nothing, Next}
+use Rattle.sci.specs.declared.Loaded.the-variants.{Next}
 use Rattle.sci.specs.declared.Preloaded.{Preloaded}
 use Rattle.sci.specs.declared.Rx.{Rx}
 use Rattle.sci.specs.declared.Receiver.{Receiver}
-use Rattle.sci.specs.declared.Receiver.the-variants.{Idle, Busy}
-use Rattle.sci.specs.declared.Sampled.{Sampled}
+use Rattle.sci.specs.declared.Receiver.the-variants.{Busy}
 use Rattle.sci.specs.declared.Sampled.the-variants.{Onward, Whole}
 use Rattle.sci.specs.declared.Tx.{Tx}
 use Rattle.sci.specs.declared.Tx.the-variants.{Off, Blocked, Mark, Start, Data, Tail}
@@ -77,19 +76,6 @@ pub synchronous-of : (f g : Format) → f ≡ g → f .synchronous ≡ g .synchr
 synchronous-of f g h = ap (λ (x : Format). x .synchronous) h
 
 pub ruleset bools = (not-eq, and-eq, or-eq, synchronous-of)
-
--- a conjunction decided by its parts
-pub and-tt : (a b : Bool) → a ≡ true → b ≡ true → (a && b) ≡ true
-and-tt a b e h = ap₂ _&&_ e h
-
-pub and-f₁ : (a b : Bool) → a ≡ false → (a && b) ≡ false
-and-f₁ a b e = ap (λ (x : Bool). x && b) e
-
-pub not-t : (a : Bool) → a ≡ false → not a ≡ true
-not-t a e = ap not e
-
-pub not-f : (a : Bool) → a ≡ true → not a ≡ false
-not-f a e = ap not e
 
 -- ---- what the state is known to hold in an arm
 pub off-sendable : (t : Tx) → t ≡ Off → Sendable t

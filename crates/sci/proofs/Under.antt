@@ -272,5 +272,3 @@ advance-tx-on-of z x0 y0 x1 y1 e h0 h1 = e ∙ (λ j. advance-tx-on (h0 j) (h1 j
 
 pub advance-tx-of : (z : Port) (x0 y0 : Port) → z ≡ advance-tx x0 → x0 ≡ y0 → z ≡ advance-tx y0
 advance-tx-of z x0 y0 e h0 = e ∙ (λ j. advance-tx (h0 j))
-
-pub ruleset under = (counted-of, edge-counted-of, after-of, with-clock-of, refresh-sync-clock-of, bit-taken-of, take-bit-of, clocked-word-of, receive-bit-on-of, receive-bit-of, finish-clocked-of, tail-ends-on-of, tail-ends-of, bit-out-of, shift-clocked-of, shift-out-on-of, shift-out-of, sync-edge-of, with-holding-of, with-tx-of, with-rx-of, with-sync-next-of, process-basic-of, sync-of, clocked-edge-of, advance-of, half-step-of, halves-of, inside-of, uncounted-of, receive-input-of, external-edge-of, input-pins-of, carried-of, reset-registers-of, reset-of, with-power-of, set-power-of, armed-of, started-of, stepped-of, stopped-of, sample-at-of, sample-of, arm-receive-on-of, arm-receive-of, complete-receive-of, after-sample-of, advance-rx-on-of, advance-rx-of, read-of, sender-off-of, sender-on-of, scr-tx-of, scr-rx-of, write-scr-of, write-tdr-of, status-with-of, status-write-of, stored-of, connect-of, fill-tail-of, load-tail-on-of, load-tail-of, settled-of, write-of, preloaded-on-of, preloaded-of, preload-of, drive-of, begin-of, start-at-of, start-loaded-of, try-start-on-of, try-start-of, one-sent-of, finish-tail-of, tailed-of, next-cell-of, send-step-on-of, advance-tx-on-of, advance-tx-of)

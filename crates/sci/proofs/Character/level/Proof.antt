@@ -1,5 +1,4 @@
 use borrow.Author.Needs.{needs}
-use Rattle.frame.proofs.Laws.{one-shl}
 use Rattle.sci.proofs.Steps.{bit-test}
 use Rattle.sci.proofs.Character.level.Statement.{statement}
 use Rattle.sci.proofs.Character.level.Tie as tie

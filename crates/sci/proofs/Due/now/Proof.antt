@@ -1,7 +1,6 @@
+use Rattle.frame.proofs.Choose.{choose}
 use borrow.Author.Needs.{needs}
 use Rattle.sci.proofs.Clauses.{due-now-clauses}
-use Rattle.sci.proofs.Under.{under}
-use Rattle.sci.proofs.Steps.{step, held, bools}
 use Rattle.sci.proofs.Due.now.Statement.{statement}
 use Rattle.sci.proofs.Due.now.Tie as tie
 
@@ -12,4 +11,4 @@ now-spec =
     (λ c. search needs)
     (λ c. search needs)
     (λ c. search needs)
-    (λ c. search (due-now-clauses, under, step) depth 10))
+    (λ c. search (due-now-clauses, choose) depth 10))

@@ -1,7 +1,6 @@
+use Rattle.frame.proofs.Choose.{choose}
 use borrow.Author.Needs.{needs}
 use Rattle.sci.proofs.Clauses.{due-or-clauses}
-use Rattle.sci.proofs.Under.{under}
-use Rattle.sci.proofs.Steps.{step, held, bools}
 use Rattle.sci.proofs.Due.or_at.Statement.{statement}
 use Rattle.sci.proofs.Due.or_at.Tie as tie
 
@@ -11,5 +10,5 @@ or-at-spec =
     (tie.spec
     (λ c. search needs)
     (λ c. search needs)
-    (λ c. search (due-or-clauses, under, step) depth 10)
-    (λ c. search (due-or-clauses, under, step) depth 10))
+    (λ c. search (due-or-clauses, choose) depth 10)
+    (λ c. search (due-or-clauses, choose) depth 10))

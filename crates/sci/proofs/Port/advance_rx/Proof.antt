@@ -1,8 +1,8 @@
-use borrow.Author.Needs.{needs}
 use Rattle.sci.proofs.Clauses.{advance-rx-on-clauses}
-use Rattle.sci.proofs.Under.{under}
-use Rattle.sci.proofs.Steps.{step, held, bools}
+use Rattle.sci.proofs.Steps.{held, step}
+use Rattle.sci.proofs.Under.{after-sample-of, sample-of}
 use Rattle.sci.specs.Receiver.{advance-rx}
+use borrow.Author.Needs.{needs}
 use Rattle.sci.proofs.Port.advance_rx.Statement.{statement}
 use Rattle.sci.proofs.Port.advance_rx.Tie as tie
 
@@ -13,13 +13,13 @@ advance-rx-spec =
     (tie.spec
     (λ c. search needs)
     (λ c. search needs)
-    (λ c. search (advance-rx-on-clauses, under, step) depth 10)
+    (λ c. search (advance-rx-on-clauses, step) depth 10)
     (λ c. search needs)
     (λ c. search needs)
-    (λ c. search (advance-rx-on-clauses, under, step) depth 10)
-    (λ c. search (advance-rx-on-clauses, under, step) depth 10)
+    (λ c. search (advance-rx-on-clauses, step) depth 10)
+    (λ c. search (advance-rx-on-clauses, step) depth 10)
     (λ c κs. search needs)
     (λ c κs. search needs)
     (λ c κs. search (held, step) depth 10)
     (λ c κs. search needs)
-    (λ c. search (advance-rx-on-clauses, under, step) depth 10))
+    (λ c. search (advance-rx-on-clauses, after-sample-of, sample-of, step) depth 10))

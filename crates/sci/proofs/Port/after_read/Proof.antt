@@ -1,6 +1,4 @@
-use borrow.Author.Needs.{needs}
-use Rattle.sci.proofs.Under.{under}
-use Rattle.sci.proofs.Steps.{step, held, bools}
+use Rattle.frame.proofs.Choose.{choose}
 use Rattle.sci.specs.Registers.{read}
 use Rattle.sci.proofs.Port.after_read.Statement.{statement}
 use Rattle.sci.proofs.Port.after_read.Tie as tie
@@ -10,6 +8,6 @@ unfolding read
 after-read-spec =
     tie.close
     (tie.spec
-    (λ c. search (under, step) depth 10)
-    (λ c. search (under, step) depth 10)
-    (λ c. search (under, step) depth 10))
+    (λ c. search (choose) depth 10)
+    (λ c. search (choose) depth 10)
+    (λ c. search (choose) depth 10))

@@ -1,7 +1,7 @@
-use borrow.Author.Needs.{needs}
+use Rattle.frame.proofs.Choose.{choose}
 use Rattle.sci.proofs.Clauses.{after-sample-clauses}
-use Rattle.sci.proofs.Under.{under}
-use Rattle.sci.proofs.Steps.{step, held, bools}
+use Rattle.sci.proofs.Under.{complete-receive-of}
+use borrow.Author.Needs.{needs}
 use Rattle.sci.proofs.Port.after_sample.Statement.{statement}
 use Rattle.sci.proofs.Port.after_sample.Tie as tie
 
@@ -16,6 +16,6 @@ after-sample-spec =
     (λ c. search needs)
     (λ c κs. search needs)
     (λ c κs. search needs)
-    (λ c. search (after-sample-clauses, under, step) depth 10)
-    (λ c. search (after-sample-clauses, under, step) depth 10)
-    (λ c. search (after-sample-clauses, under, step) depth 10))
+    (λ c. search (after-sample-clauses, choose) depth 10)
+    (λ c. search (after-sample-clauses, choose) depth 10)
+    (λ c. search (after-sample-clauses, complete-receive-of, choose) depth 10))

@@ -1,6 +1,5 @@
 use borrow.Author.Needs.{needs}
-use Rattle.sci.proofs.Under.{under}
-use Rattle.sci.proofs.Steps.{step, held, bools}
+use Rattle.sci.proofs.Steps.{step, bools}
 use Rattle.sci.proofs.Port.arms.Statement.{statement}
 use Rattle.sci.proofs.Port.arms.Tie as tie
 

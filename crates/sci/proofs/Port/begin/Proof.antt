@@ -1,7 +1,7 @@
-use borrow.Author.Needs.{needs}
-use Rattle.sci.proofs.Under.{under}
-use Rattle.sci.proofs.Steps.{step, held, bools}
+use Rattle.frame.proofs.Choose.{choose}
+use Rattle.sci.proofs.Under.{drive-of, with-tx-of}
 use Rattle.sci.specs.Sender.{begin}
+use borrow.Author.Needs.{needs}
 use Rattle.sci.proofs.Port.begin.Statement.{statement}
 use Rattle.sci.proofs.Port.begin.Tie as tie
 
@@ -11,9 +11,9 @@ begin-spec =
     tie.close
     (tie.spec
     (λ c κs. search needs)
-    (λ c. search (under, step) depth 10)
+    (λ c. search choose depth 10)
     (λ c. search needs)
     (λ c κs. search needs)
     (λ c κs. search needs)
     (λ c κs. search needs)
-    (λ c. search (under, step) depth 10))
+    (λ c. search (with-tx-of, drive-of, choose) depth 10))

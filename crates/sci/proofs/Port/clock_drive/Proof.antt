@@ -1,6 +1,5 @@
+use Rattle.frame.proofs.Choose.{choose}
 use borrow.Author.Needs.{needs}
-use Rattle.sci.proofs.Under.{under}
-use Rattle.sci.proofs.Steps.{step, held, bools}
 use Rattle.sci.proofs.Port.clock_drive.Statement.{statement}
 use Rattle.sci.proofs.Port.clock_drive.Tie as tie
 
@@ -9,8 +8,8 @@ clock-drive-spec =
     tie.close
     (tie.spec
     (λ c κs. search needs)
-    (λ c. search (under, step) depth 10)
+    (λ c. search (choose) depth 10)
     (λ c κs. search needs)
-    (λ c. search (under, step) depth 10)
-    (λ c. search (under, step) depth 10)
-    (λ c. search (under, step) depth 10))
+    (λ c. search (choose) depth 10)
+    (λ c. search (choose) depth 10)
+    (λ c. search (choose) depth 10))

@@ -4,7 +4,6 @@ use Prim.Native.Nat.{ℕ, _+_, _-_, _≤_}
 use native.Mathlib.Nat.{add-zero}
 use native.Mathlib.Omega.{arith}
 use borrow.Author.Needs.{needs}
-use Rattle.sci.specs.declared.Port.{Port}
 use Rattle.sci.specs.Half.{halves}
 use Rattle.sci.specs.Valid.{limit}
 use Rattle.sci.specs.Ready.{Ready}

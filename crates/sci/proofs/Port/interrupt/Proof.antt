@@ -1,6 +1,4 @@
-use borrow.Author.Needs.{needs}
-use Rattle.sci.proofs.Under.{under}
-use Rattle.sci.proofs.Steps.{step, held, bools}
+use Rattle.frame.proofs.Choose.{choose}
 use Rattle.sci.specs.Pins.{interrupt}
 use Rattle.sci.proofs.Port.interrupt.Statement.{statement}
 use Rattle.sci.proofs.Port.interrupt.Tie as tie
@@ -10,4 +8,4 @@ unfolding interrupt
 interrupt-spec =
     tie.close
     (tie.spec
-    (λ c. search (under, step) depth 10))
+    (λ c. search (choose) depth 10))

@@ -15,4 +15,4 @@ pass-inside-spec =
     (λ c κs. search needs)
     (λ c. search (done-eq, orders, choose) depth 10)
     (λ c κs. search needs)
-    (λ c. search (done-eq, orders, choose) depth 10))
+    (λ c. search (orders, choose) depth 10))

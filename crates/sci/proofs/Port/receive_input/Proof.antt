@@ -1,6 +1,5 @@
+use Rattle.frame.proofs.Choose.{choose}
 use borrow.Author.Needs.{needs}
-use Rattle.sci.proofs.Under.{under}
-use Rattle.sci.proofs.Steps.{step, held, bools}
 use Rattle.sci.specs.Pins.{receive-input}
 use Rattle.sci.proofs.Port.receive_input.Statement.{statement}
 use Rattle.sci.proofs.Port.receive_input.Tie as tie
@@ -11,5 +10,5 @@ receive-input-spec =
     tie.close
     (tie.spec
     (λ c κs. search needs)
-    (λ c. search (under, step) depth 10)
-    (λ c. search (under, step) depth 10))
+    (λ c. search (choose) depth 10)
+    (λ c. search (choose) depth 10))

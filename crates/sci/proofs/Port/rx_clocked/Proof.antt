@@ -1,7 +1,6 @@
+use Rattle.frame.proofs.Choose.{choose}
 use borrow.Author.Needs.{needs}
 use Rattle.sci.proofs.Clauses.{rx-clocked-clauses}
-use Rattle.sci.proofs.Under.{under}
-use Rattle.sci.proofs.Steps.{step, held, bools}
 use Rattle.sci.proofs.Port.rx_clocked.Statement.{statement}
 use Rattle.sci.proofs.Port.rx_clocked.Tie as tie
 
@@ -11,5 +10,5 @@ rx-clocked-spec =
     (tie.spec
     (λ c. search needs)
     (λ c. search needs)
-    (λ c. search (rx-clocked-clauses, under, step) depth 10)
-    (λ c. search (rx-clocked-clauses, under, step) depth 10))
+    (λ c. search (rx-clocked-clauses, choose) depth 10)
+    (λ c. search (rx-clocked-clauses, choose) depth 10))

@@ -1,6 +1,5 @@
+use Rattle.frame.proofs.Choose.{choose}
 use borrow.Author.Needs.{needs}
-use Rattle.sci.proofs.Under.{under}
-use Rattle.sci.proofs.Steps.{step, held, bools}
 use Rattle.sci.proofs.Port.scr_rx.Statement.{statement}
 use Rattle.sci.proofs.Port.scr_rx.Tie as tie
 
@@ -8,6 +7,6 @@ pub scr-rx-spec : {M : Type 1} → statement M
 scr-rx-spec =
     tie.close
     (tie.spec
-    (λ c. search (under, step) depth 10)
+    (λ c. search (choose) depth 10)
     (λ c κs. search needs)
-    (λ c. search (under, step) depth 10))
+    (λ c. search (choose) depth 10))

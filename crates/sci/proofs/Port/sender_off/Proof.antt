@@ -1,6 +1,5 @@
+use Rattle.sci.proofs.Under.{with-holding-of}
 use borrow.Author.Needs.{needs}
-use Rattle.sci.proofs.Under.{under}
-use Rattle.sci.proofs.Steps.{step, held, bools}
 use Rattle.sci.proofs.Port.sender_off.Statement.{statement}
 use Rattle.sci.proofs.Port.sender_off.Tie as tie
 
@@ -10,4 +9,4 @@ sender-off-spec =
     (tie.spec
     (λ c κs. search needs)
     (λ c κs. search needs)
-    (λ c. search (under, step) depth 10))
+    (λ c. search (with-holding-of, needs) depth 10))

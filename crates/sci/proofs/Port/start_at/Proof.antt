@@ -1,6 +1,5 @@
+use Rattle.frame.proofs.Choose.{choose}
 use borrow.Author.Needs.{needs}
-use Rattle.sci.proofs.Under.{under}
-use Rattle.sci.proofs.Steps.{step, held, bools}
 use Rattle.sci.specs.Sender.{start-at}
 use Rattle.sci.proofs.Port.start_at.Statement.{statement}
 use Rattle.sci.proofs.Port.start_at.Tie as tie
@@ -11,6 +10,6 @@ start-at-spec =
     tie.close
     (tie.spec
     (λ c κs. search needs)
-    (λ c. search (under, step) depth 10)
+    (λ c. search (choose) depth 10)
     (λ c κs. search needs)
-    (λ c. search (under, step) depth 10))
+    (λ c. search (choose) depth 10))

@@ -1,7 +1,8 @@
-use borrow.Author.Needs.{needs}
-use Rattle.sci.proofs.Under.{under}
-use Rattle.sci.proofs.Steps.{step, held, bools}
+use Rattle.frame.proofs.Choose.{choose}
+use Rattle.sci.proofs.Steps.{busy-eq}
+use Rattle.sci.proofs.Under.{bit-taken-of, complete-receive-of, with-rx-of}
 use Rattle.sci.specs.Clocked.{take-bit}
+use borrow.Author.Needs.{needs}
 use Rattle.sci.proofs.Port.take_bit.Statement.{statement}
 use Rattle.sci.proofs.Port.take_bit.Tie as tie
 
@@ -15,6 +16,6 @@ take-bit-spec =
     (λ c κs. search needs)
     (λ c κs. search needs)
     (λ c κs. search needs)
-    (λ c. search (under, step) depth 10)
+    (λ c. search (complete-receive-of, bit-taken-of, choose) depth 10)
     (λ c κs. search needs)
-    (λ c. search (under, step) depth 10))
+    (λ c. search (with-rx-of, bit-taken-of, busy-eq, choose) depth 10))

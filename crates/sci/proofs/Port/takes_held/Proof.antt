@@ -1,7 +1,6 @@
 use borrow.Author.Needs.{needs}
 use Rattle.sci.proofs.Clauses.{holds-clauses}
-use Rattle.sci.proofs.Under.{under}
-use Rattle.sci.proofs.Steps.{step, held, bools}
+use Rattle.sci.proofs.Steps.{step, bools}
 use Rattle.sci.proofs.Port.takes_held.Statement.{statement}
 use Rattle.sci.proofs.Port.takes_held.Tie as tie
 

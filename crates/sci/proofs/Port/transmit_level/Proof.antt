@@ -1,6 +1,4 @@
-use borrow.Author.Needs.{needs}
-use Rattle.sci.proofs.Under.{under}
-use Rattle.sci.proofs.Steps.{step, held, bools}
+use Rattle.frame.proofs.Choose.{choose}
 use Rattle.sci.specs.Pins.{transmit-level}
 use Rattle.sci.proofs.Port.transmit_level.Statement.{statement}
 use Rattle.sci.proofs.Port.transmit_level.Tie as tie
@@ -10,5 +8,5 @@ unfolding transmit-level
 transmit-level-spec =
     tie.close
     (tie.spec
-    (λ c. search (under, step) depth 10)
-    (λ c. search (under, step) depth 10))
+    (λ c. search (choose) depth 10)
+    (λ c. search (choose) depth 10))

@@ -1,7 +1,6 @@
-use borrow.Author.Needs.{needs}
-use Rattle.sci.proofs.Under.{under}
-use Rattle.sci.proofs.Steps.{step, held, bools}
+use Rattle.sci.proofs.Under.{scr-rx-of}
 use Rattle.sci.specs.Registers.{write-scr}
+use borrow.Author.Needs.{needs}
 use Rattle.sci.proofs.Port.write_scr.Statement.{statement}
 use Rattle.sci.proofs.Port.write_scr.Tie as tie
 
@@ -12,4 +11,4 @@ write-scr-spec =
     (tie.spec
     (λ c κs. search needs)
     (λ c κs. search needs)
-    (λ c. search (under, step) depth 10))
+    (λ c. search (scr-rx-of, needs) depth 10))

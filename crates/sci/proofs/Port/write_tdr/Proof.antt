@@ -1,6 +1,5 @@
+use Rattle.frame.proofs.Choose.{choose}
 use borrow.Author.Needs.{needs}
-use Rattle.sci.proofs.Under.{under}
-use Rattle.sci.proofs.Steps.{step, held, bools}
 use Rattle.sci.specs.Registers.{write-tdr}
 use Rattle.sci.proofs.Port.write_tdr.Statement.{statement}
 use Rattle.sci.proofs.Port.write_tdr.Tie as tie
@@ -11,5 +10,5 @@ write-tdr-spec =
     tie.close
     (tie.spec
     (λ c κs. search needs)
-    (λ c. search (under, step) depth 10)
-    (λ c. search (under, step) depth 10))
+    (λ c. search (choose) depth 10)
+    (λ c. search (choose) depth 10))

@@ -1,6 +1,6 @@
 use borrow.Author.Needs.{needs}
 use Rattle.sci.proofs.SignedLaws.{data-shifts, at-falling, at-starting, at-data-cell, at-parity-cell, at-stop-cell}
-use Rattle.sci.proofs.Under.{stepped-of, stopped-of}
+use Rattle.sci.proofs.Under.{stepped-of}
 use Rattle.frame.proofs.Choose.{flag-t, flag-f}
 use Rattle.sci.proofs.Steps.{step}
 use Rattle.sci.proofs.Rx.sampled.Statement.{statement}
@@ -11,20 +11,20 @@ sampled-spec =
     tie.close
     (tie.spec
     (λ c κs. search needs)
-    (λ c. search (at-falling, stepped-of, stopped-of, step) depth 10)
+    (λ c. search (at-falling, step) depth 10)
     (λ c κs. search needs)
-    (λ c. search (at-falling, stepped-of, stopped-of, step) depth 10)
+    (λ c. search (at-falling, step) depth 10)
     (λ c κs. search needs)
-    (λ c. search (at-starting, stepped-of, stopped-of, step) depth 10)
+    (λ c. search (at-starting, step) depth 10)
     (λ c κs. search needs)
-    (λ c. search (at-starting, stepped-of, stopped-of, step) depth 10)
+    (λ c. search (at-starting, step) depth 10)
     (λ c κs. search needs)
     (λ c κs. search (data-shifts, flag-t, flag-f, needs))
     (λ c κs. search needs)
-    (λ c. search (at-data-cell, stepped-of, stopped-of, step) depth 10)
+    (λ c. search (at-data-cell, stepped-of, step) depth 10)
     (λ c κs. search needs)
     (λ c κs. search needs)
     (λ c κs. search needs)
-    (λ c. search (at-parity-cell, stepped-of, stopped-of, step) depth 10)
+    (λ c. search (at-parity-cell, stepped-of, step) depth 10)
     (λ c κs. search needs)
-    (λ c. search (at-stop-cell, stepped-of, stopped-of, step) depth 10))
+    (λ c. search (at-stop-cell, step) depth 10))

@@ -1,7 +1,6 @@
+use Rattle.frame.proofs.Choose.{choose}
 use borrow.Author.Needs.{needs}
 use Rattle.sci.proofs.Clauses.{tx-next-clauses}
-use Rattle.sci.proofs.Under.{under}
-use Rattle.sci.proofs.Steps.{step, held, bools}
 use Rattle.sci.proofs.Tx.next.Statement.{statement}
 use Rattle.sci.proofs.Tx.next.Tie as tie
 
@@ -17,7 +16,7 @@ next-spec =
     (λ c. search needs)
     (λ c. search needs)
     (λ c. search needs)
-    (λ c. search (tx-next-clauses, under, step) depth 10)
-    (λ c. search (tx-next-clauses, under, step) depth 10)
-    (λ c. search (tx-next-clauses, under, step) depth 10)
+    (λ c. search (tx-next-clauses, choose) depth 10)
+    (λ c. search (tx-next-clauses, choose) depth 10)
+    (λ c. search (tx-next-clauses, choose) depth 10)
     (λ c. search needs))

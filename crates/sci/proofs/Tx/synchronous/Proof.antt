@@ -1,7 +1,6 @@
+use Rattle.frame.proofs.Choose.{choose}
 use borrow.Author.Needs.{needs}
 use Rattle.sci.proofs.Clauses.{absent-clauses, tx-clocked-clauses}
-use Rattle.sci.proofs.Under.{under}
-use Rattle.sci.proofs.Steps.{step, held, bools}
 use Rattle.sci.proofs.Tx.synchronous.Statement.{statement}
 use Rattle.sci.proofs.Tx.synchronous.Tie as tie
 
@@ -21,5 +20,5 @@ synchronous-spec =
     (λ c. search needs)
     (λ c. search needs)
     (λ c. search needs)
-    (λ c. search (absent-clauses, tx-clocked-clauses, under, step) depth 10)
+    (λ c. search (absent-clauses, tx-clocked-clauses, choose) depth 10)
     (λ c. search needs))
