@@ -201,7 +201,7 @@ advance-fmt v = go (v .rx)
     go Idle = refl
     go (Busy r) = by-cond (λ (w : View). w .fmt ≡ v .fmt) (due-now (r .next) (v .half)) (v-outcome (sample (v .fmt) (v .mark) (v .half) r) v) v (λ e. outc (sample (v .fmt) (v .mark) (v .half) r)) (λ e. refl)
 
--- process-basic work at a counted half keeps the bound, and done twice is done once
+-- basic work at a counted half keeps the bound, and done twice is done once
 pub basic-fits : (v : View) (h : ℕ) → v .half ≡ suc h → Sound (v .fmt) → Fits h (v .rx) → Fits (suc h) ((v-basic v) .rx)
 unfolding v-basic
 basic-fits v h e sf t =

@@ -1,22 +1,23 @@
 -- The claim, computed: a test that a list meets what is asked, and a test that fails where what is claimed fails. For worked lists.
 -- Assumes nothing.
-use mathlib.Core.Path.{_≡_, refl, sym, ap, _∙_}
-use Prim.Native.Nat.{ℕ, zero, suc}
-use mathlib.Core.Bool.{Bool, true, false, not, _&&_, _||_, Bool·beq, true≢false, false≢true}
+use mathlib.Core.Path.{_≡_, refl, sym, ap, _∙_, ap₂, subst}
+use Prim.Native.Nat.{ℕ, zero, suc, _+_, _≤_}
+use mathlib.Core.Bool.{Bool, true, false, not, _&&_, _||_, Bool·beq, true≢false, false≢true, cond}
 use mathlib.Core.List.{List, [], _∷_, _++_}
 use lib.Dec.{eqb, leb}
 use lib.ListN.{length, getD}
-use borrow.Author.Tests.{eq-eqb, eqb-true, leb-true, le-leb}
+use borrow.Author.Tests.{eq-eqb, leb-true, le-leb}
 use Rattle.frame.specs.declared.Format.{Format}
 use Rattle.sci.specs.declared.Port.{Port}
 use Rattle.frame.proofs.Truth.{and-both, and-left, and-right}
 use Rattle.frame.specs.Frame.{has}
 use Rattle.sci.specs.Baud.{format-of, internal}
-use Rattle.sci.specs.Calls.{Answer, Call, lets-pass, passes-inside, reads, sets-line, sets-pins, sets-power, writes}
+use Rattle.sci.specs.Calls.{Answer, Call, done, lets-pass, passes-inside, reads, refused, sets-line, sets-pins, sets-power, writes}
 use Rattle.sci.specs.Clocked.{rx-clocked}
 use Rattle.laws.proofs.Branches.{not-true}
 use Rattle.recovery.specs.Line.{Count, Event, Item, count-after, half-passes, none-yet, other, prefix, rdr-read, signal, stop-cells-begun, stop-cells-passed, tally-after, values}
-use Rattle.recovery.specs.Recovery.{HistoryEnd, Holds, Moment, Recovered, Recovers, Rest, Wired, Words, accepted, allowed-in-rest, allowed-in-words, answer-is, by-8, each, levels, line-at-mark, read-before, run, separated, start, step, throughout, trace}
+use Rattle.recovery.specs.Recovery.{HistoryEnd, Holds, Moment, Recovered, Recovers, Rest, Wired, Words, accepted, allowed-in-rest, allowed-in-words, answer-is, by-8, call-trace, each, level-of, levels, line-at-mark, one-moment, read-before, run, separated, start, step, throughout, trace, wait-trace, waited}
+use Rattle.recovery.proofs.RestCalls.{levels-append}
 
 same-bits : (x y : Bool) → Bool·beq x y ≡ true → x ≡ y
 same-bits true true e = refl
@@ -129,10 +130,62 @@ module _ (direct : Call → Port → Answer) where
   unfoldable pub history-meets : Wired → Bool
   history-meets h = has (h .port .scr) 0x10 && (not (has (h .port .smr) 0x80) && (not (has (h .port .ssr) 0x38) && internal (h .port)))
 
+  -- the halves of a list of calls, counted without a look at the ports
+  abbrev pub call-halves : Call → Answer → Port → ℕ
+  call-halves (lets-pass n) a p = cond (accepted a && internal p) n 0
+  call-halves (reads x) a p = 0
+  call-halves (writes x v) a p = 0
+  call-halves (sets-line b) a p = 0
+  call-halves (sets-pins c b) a p = 0
+  call-halves (sets-power b) a p = 0
+  call-halves passes-inside a p = 0
+
+  unfoldable pub count-halves : Wired → List Call → ℕ
+  count-halves s [] = 0
+  count-halves s (c ∷ cs) =
+      let a = direct c (s .port) in
+      call-halves c a (s .port) + count-halves (step c a s) cs
+
+  wait-length : (n i : ℕ) (m : Bool) (p q : Port) → length (levels (wait-trace direct n i m p q)) ≡ n
+  unfolding wait-trace levels
+  wait-length zero i m p q = refl
+  wait-length (suc n) i m p q = ap suc (wait-length n (suc i) m p (waited direct (suc i) p))
+
+  none-else : (e : ℕ → Event) (a : Answer) → ((v : ℕ) → level-of (e v) [] ≡ []) → length (levels (one-moment e a)) ≡ 0
+  unfolding levels
+  none-else e (done v q) k = ap length (k v)
+  none-else e (refused n offset q) k = refl
+
+  call-length : (c : Call) (a : Answer) (s : Wired) → length (levels (call-trace direct c a s)) ≡ call-halves c a (s .port)
+  unfolding levels
+  call-length (lets-pass n) (done v q) s = go (internal (s .port))
+    where
+      go : (b : Bool) → length (levels (cond b (wait-trace direct n 0 (line-at-mark s) (s .port) (s .port)) (one-moment (λ u. other) (done v q)))) ≡ cond b n 0
+      go true = wait-length n 0 (line-at-mark s) (s .port) (s .port)
+      go false = refl
+  call-length (lets-pass n) (refused k offset q) s = refl
+  call-length (reads x) a s = none-else (λ v. cond (eqb x 0xff9d) (rdr-read v) other) a (λ v. go v (eqb x 0xff9d))
+    where
+      go : (v : ℕ) (b : Bool) → level-of (cond b (rdr-read v) other) [] ≡ []
+      go v true = refl
+      go v false = refl
+  call-length (writes x v) a s = none-else (λ u. other) a (λ u. refl)
+  call-length (sets-line b) a s = none-else (λ u. other) a (λ u. refl)
+  call-length (sets-pins c b) a s = none-else (λ u. other) a (λ u. refl)
+  call-length (sets-power b) a s = none-else (λ u. other) a (λ u. refl)
+  call-length passes-inside a s = none-else (λ u. other) a (λ u. refl)
+
+  halves-counted : (cs : List Call) (s : Wired) → length (levels (trace direct s cs)) ≡ count-halves s cs
+  unfolding trace count-halves levels
+  halves-counted [] s = refl
+  halves-counted (c ∷ cs) s =
+      let a : Answer = direct c (s .port) in
+      levels-append (call-trace direct c a s) (trace direct (step c a s) cs) ∙ ap₂ (λ (x y : ℕ). x + y) (call-length c a s) (halves-counted cs (step c a s))
+
   -- `n` halves at least: 384 in the claim
   unfoldable pub rest-meets : ℕ → Wired → List Call → Wired → Bool
   rest-meets n h rest r =
-      line-at-mark h && (all-may may-rest line-at-mark h rest && (leb n (length (levels (trace direct h rest))) && (not (has (r .port .ssr) 0x78) && not (rx-clocked (r .port .rx)))))
+      line-at-mark h && (all-may may-rest line-at-mark h rest && (leb n (count-halves h rest) && (not (has (r .port .ssr) 0x78) && not (rx-clocked (r .port .rx)))))
 
   unfoldable pub words-meet : Wired → List Call → List Item → List Moment → Bool
   words-meet r words items ms =
@@ -154,7 +207,7 @@ module _ (direct : Call → Port → Answer) where
   unfolding rest-meets
   rest-is h rest e =
       let a : Bool = all-may may-rest line-at-mark h rest in
-      let b : Bool = leb 384 (length (levels (trace direct h rest))) in
+      let b : Bool = leb 384 (count-halves h rest) in
       let c : Bool = not (has (run direct h rest .port .ssr) 0x78) in
       let d : Bool = not (rx-clocked (run direct h rest .port .rx)) in
       let e1 : (a && (b && (c && d))) ≡ true = and-right (line-at-mark h) (a && (b && (c && d))) e in
@@ -163,7 +216,7 @@ module _ (direct : Call → Port → Answer) where
       record {
         line = and-left (line-at-mark h) (a && (b && (c && d))) e;
         calls = rests-sound rest h (and-left a (b && (c && d)) e1);
-        long = leb-true 384 (length (levels (trace direct h rest))) (and-left b (c && d) e2);
+        long = subst (λ (n : ℕ). 384 ≤ n) (sym (halves-counted rest h)) (leb-true 384 (count-halves h rest) (and-left b (c && d) e2));
         flags = not-true (has (run direct h rest .port .ssr) 0x78) (and-left c d e3);
         no-clocked-word = not-true (rx-clocked (run direct h rest .port .rx)) (and-right c d e3);
       }

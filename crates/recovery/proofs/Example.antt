@@ -9,7 +9,7 @@ use Rattle.sci.specs.Calls.{Call, direct, lets-pass, passes-inside, reads, sets
 use Rattle.recovery.specs.Corollaries.{Demand, Sentences}
 use Rattle.recovery.specs.Line.{Item, mark, signal, spread, stop-cells-begun, stop-cells-passed, tally-after, values, word-of}
 use Rattle.recovery.specs.Recovery.{Recovered, Recovers, Wired, completed, levels, run, start, trace, wait-trace}
-use Rattle.recovery.proofs.Compute.{Met, all-may, are-separated, asked-of, history-meets, is-prefix, may-read, may-rest, meets, met, rest-meets, was-read, words-meet}
+use Rattle.recovery.proofs.Compute.{count-halves, Met, all-may, are-separated, asked-of, history-meets, is-prefix, may-read, may-rest, meets, met, rest-meets, was-read, words-meet}
 use Rattle.recovery.proofs.Computes.{computes}
 use Rattle.recovery.proofs.Corollaries.{demand}
 use Rattle.recovery.proofs.Recovery.{recovery}
@@ -23,7 +23,7 @@ history =
 
 -- 384 halves at mark, in which the stale word ends in a parity error; the flags are read, RDR is read, and the flags are cleared; two calls are refused
 pub rest : List Call
-rest = replicate 48 (lets-pass 8) ++ (reads 0xff9c ∷ reads 0xff9d ∷ writes 0xff9c 0x87 ∷ lets-pass 70000 ∷ sets-power 16 ∷ [])
+rest = lets-pass 384 ∷ reads 0xff9c ∷ reads 0xff9d ∷ writes 0xff9c 0x87 ∷ lets-pass 70000 ∷ sets-power 16 ∷ []
 
 -- a cell of 32 halves on the inverted line
 send : List Bool → List Call
@@ -41,7 +41,7 @@ items = mark 5 ∷ word-of 0x55 ∷ word-of 0x23 ∷ []
 
 -- the test of what is asked, with all that it takes to compute it
 computed : Bool
-unfolding computes spread signal values stop-cells-begun stop-cells-passed tally-after levels completed run wait-trace trace is-prefix may-rest may-read was-read are-separated all-may history-meets rest-meets words-meet asked-of meets history rest send words items
+unfolding computes spread signal values stop-cells-begun stop-cells-passed tally-after levels completed run wait-trace trace is-prefix may-rest may-read was-read are-separated all-may count-halves history-meets rest-meets words-meet asked-of meets history rest send words items
 computed = meets direct history rest words items
 
 -- it meets what is asked
@@ -67,6 +67,6 @@ unfolding computed completed r
 two = refl
 
 -- the history was noisy: after the 384 halves SSR had TDRE, TEND and a parity error, of the stale word
-parity-error : run direct (run direct start history) (replicate 48 (lets-pass 8)) .port .ssr ≡ 0x8c
+parity-error : run direct (run direct start history) (lets-pass 384 ∷ []) .port .ssr ≡ 0x8c
 unfolding computed
 parity-error = refl

@@ -10,7 +10,7 @@ use Rattle.frame.specs.Frame.{bits, format, one-if, word}
 use Rattle.sci.specs.Calls.{Call, direct, lets-pass, sets-line, sets-power, writes}
 use Rattle.recovery.specs.Line.{mark, signal, spread, stop-cells-begun, stop-cells-passed, tally-after, values, word-of}
 use Rattle.recovery.specs.Recovery.{Rest, Wired, completed, levels, run, start, trace, wait-trace}
-use Rattle.recovery.proofs.Compute.{all-may, all-stand, are-separated, asked-of, breaks, history-meets, is-prefix, may-read, may-rest, none-by-8, rest-meets, says, stands, was-read, words-meet}
+use Rattle.recovery.proofs.Compute.{count-halves, all-may, all-stand, are-separated, asked-of, breaks, history-meets, is-prefix, may-read, may-rest, none-by-8, rest-meets, says, stands, was-read, words-meet}
 use Rattle.recovery.proofs.Computes.{computes}
 use native.Mathlib.Omega.{arith}
 
@@ -94,6 +94,6 @@ no-rest rs = omega (arith, short, rs .long)
 too-early : List Call
 too-early = sets-power 3 ∷ writes 0xff98 0x20 ∷ writes 0xff9a 0x10 ∷ sets-line 0 ∷ lets-pass 17 ∷ sets-line 1 ∷ []
 
-with-256 : breaks direct 256 too-early (replicate 32 (lets-pass 8)) (send 0 0 (bits 4 (word (format 0x20 0) 0x55))) (word-of 0x55 ∷ []) ≡ true
-unfolding report too-early spread signal values stop-cells-begun stop-cells-passed tally-after is-prefix may-rest may-read was-read are-separated all-may history-meets rest-meets words-meet asked-of says stands all-stand none-by-8 breaks
+with-256 : breaks direct 256 too-early (lets-pass 256 ∷ []) (send 0 0 (bits 4 (word (format 0x20 0) 0x55))) (word-of 0x55 ∷ []) ≡ true
+unfolding report too-early spread signal values stop-cells-begun stop-cells-passed tally-after is-prefix may-rest may-read was-read are-separated all-may count-halves history-meets rest-meets words-meet asked-of says stands all-stand none-by-8 breaks
 with-256 = refl

@@ -25,7 +25,7 @@ use Rattle.recovery.proofs.Bounds.{Fits, basic-fits, basic-twice, by-cl
 use Rattle.recovery.proofs.Project.{same-either, view, view-basic, view-complete, view-refresh, view-shift-out, view-tail-step}
 use Rattle.recovery.proofs.View.{View, fall, v-advance, v-advance-on, v-arm, v-arm-on, v-basic, v-can-arm, v-complete, v-count, v-half, v-outcome, v-rx}
 
--- what of the view only registers, pins, set-power and the count of halves change
+-- what of the view only registers, pins, power and the count of halves change
 pub record Core : Type 0 where
   pub fmt : Format
   pub on : Bool

@@ -50,7 +50,7 @@ module _ (l : Bool) where
   level-no-halves zero p e = e
   level-no-halves (suc n) p e = e
 
-  -- ---- registers and set-power
+  -- ---- registers and power
   level-read : (a : ℕ) (p : Port) → Level l p → Level l (read a p)
   unfolding read
   level-read a p e = by-cond (Level l) (eqb a 0xff9c) _ _ (λ g. e) (λ g. by-cond (Level l) (eqb a 0xff9d) _ _ (λ h. e) (λ h. e))

@@ -1,17 +1,16 @@
 -- The near misses (specs/NearMisses.antt), each by one worked list: it meets what is asked, and of the port in question what is claimed fails.
 -- Assumes nothing.
-use mathlib.Core.Path.{refl}
+use mathlib.Core.Path.{_≡_, refl}
 use Prim.Native.Nat.{ℕ, zero, suc}
-use mathlib.Core.Bool.{Bool}
+use mathlib.Core.Bool.{Bool, false}
 use mathlib.Core.List.{List, [], _∷_, _++_}
-use lib.ListN.{replicate}
 use Rattle.sci.specs.declared.Port.{Port}
 use Rattle.frame.specs.Frame.{bits, format, one-if, word}
-use Rattle.sci.specs.Calls.{Answer, Call, lets-pass, reads, sets-line, sets-power, writes}
+use Rattle.sci.specs.Calls.{Answer, Call, lets-pass, reads, sets-line, sets-power, writes, direct}
 use Rattle.recovery.specs.Line.{Item, signal, spread, stop-cells-begun, stop-cells-passed, tally-after, values, word-of}
 use Rattle.recovery.specs.NearMisses.{NearMisses, counts-none, counts-two, deaf, halves-by, nothing-at-a-half, nothing-untested, rdr-never-varies, repeat, tally-stands, two-completions}
 use Rattle.recovery.specs.Recovery.{Recovers, levels, run, trace, wait-trace}
-use Rattle.recovery.proofs.Compute.{all-may, all-stand, are-separated, asked-of, breaks, history-meets, is-prefix, may-read, may-rest, none-by-8, refuted, rest-meets, says, stands, was-read, words-meet}
+use Rattle.recovery.proofs.Compute.{count-halves, all-may, all-stand, are-separated, asked-of, breaks, history-meets, is-prefix, may-read, may-rest, none-by-8, refuted, rest-meets, says, stands, was-read, words-meet}
 use Rattle.recovery.proofs.Computes.{computes}
 
 -- the cells of a word, 16 halves each, in waits of eight
@@ -30,7 +29,7 @@ history = sets-power 3 ∷ writes 0xff98 4 ∷ writes 0xffa6 8 ∷ writes 0xff9a
 
 -- 384 halves
 rest : List Call
-rest = replicate 48 (lets-pass 8)
+rest = lets-pass 384 ∷ []
 
 -- the word of 0x15, RDR read after each half of its stop cell
 words : List Call
@@ -41,8 +40,13 @@ items = word-of 0x15 ∷ []
 
 -- the test on this list, with all that it takes to compute it
 computed : (Call → Port → Answer) → Bool
-unfolding computes spread signal values stop-cells-begun stop-cells-passed tally-after levels run wait-trace trace is-prefix may-rest may-read was-read are-separated all-may history-meets rest-meets words-meet asked-of says stands all-stand none-by-8 breaks repeat halves-by deaf rdr-never-varies tally-stands send by-halves history rest words items
+unfolding computes spread signal values stop-cells-begun stop-cells-passed tally-after levels run wait-trace trace is-prefix may-rest may-read was-read are-separated all-may count-halves history-meets rest-meets words-meet asked-of says stands all-stand none-by-8 breaks repeat halves-by deaf rdr-never-varies tally-stands send by-halves history rest words items
 computed port = breaks port 384 history rest words items
+
+-- of the real port the list refutes nothing
+real-stands : computed direct ≡ false
+unfolding computed
+real-stands = refl
 
 nothing-at-a-half-fails : Recovers nothing-at-a-half → ⊥
 unfolding computed

@@ -27,7 +27,7 @@ use Rattle.recovery.proofs.Bounds.{Fits, Sound, by-clock, by-half, near
 use Rattle.recovery.proofs.Halves.{Core, core-advance}
 use Rattle.recovery.proofs.View.{View, fall, v-advance, v-advance-on, v-arm, v-arm-on, v-basic, v-can-arm, v-outcome, v-rx}
 
--- the word is Whole or gone after at most `left` halves at mark
+-- the word is whole or gone after at most `left` halves at mark
 abbrev soon : ℤ → Format → ℕ → ℕ → ℕ → Type 0
 soon (negsuc k) f h t left = t ≤ h + left
 soon (pos j) f h t left = (i : ℕ) × (j + i ≡ f .«data» + one-if (f .parity)) × (t + i * f .«half_bit» ≤ h + left)

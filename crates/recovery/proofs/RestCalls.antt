@@ -84,7 +84,7 @@ record Resting (left : ℕ) (p : Port) : Type 0 where
   line : input-level p ≡ true
   calm : Calm (p .half) left (p .rx)
 
--- a clocked word waits through the process-basic work
+-- a clocked word waits through the basic work
 clocked-half : (p : Port) (r : Rx) → format-of p .synchronous ≡ false → input-level p ≡ true → p .rx ≡ Busy r → r .format .synchronous ≡ true → r .next ≡ Never → Quiet ((half-step p) .rx)
 unfolding half-step advance v-basic
 clocked-half p r f mk e c n =
@@ -109,7 +109,7 @@ half-calm p left f mk t = go (p .rx) refl t
     go x e (clocked r c n) = quiet-calm (suc (p .half)) (left - 1) (clocked-half p r f mk e c n)
     go x e (ending r u c n lt sr nr s) = plain-case (ap rx-clocked e ∙ c)
 
--- the same registers, pins, set-power and count, with the same word in the receiver
+-- the same registers, pins, power and count, with the same word in the receiver
 resting-same : (left : ℕ) (p q : Port) → core (view q) ≡ core (view p) → q .rx ≡ p .rx → Resting left p → Resting left q
 resting-same left p q e g r =
     record {
@@ -272,7 +272,7 @@ module _ (left : ℕ) (p : Port) (r : Resting left p) where
   unfolding direct
   after-direct x = by-cond (After x) (valid p) (called x p) (refuse 8 p) (λ e. after-call x) (λ e. after-refused x 8)
 
-levels-append : (xs ys : List Moment) → length (levels (xs ++ ys)) ≡ length (levels xs) + length (levels ys)
+pub levels-append : (xs ys : List Moment) → length (levels (xs ++ ys)) ≡ length (levels xs) + length (levels ys)
 unfolding levels
 levels-append [] ys = omega arith
 levels-append (m ∷ xs) ys = go (m .event) (levels-append xs ys)

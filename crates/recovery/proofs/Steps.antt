@@ -22,7 +22,7 @@ use Rattle.frame.specs.Frame.{differ, has, number, odd-ones, one-if}
 use Rattle.sci.specs.Receiver.{sample-at}
 use Rattle.recovery.proofs.View.{fall, state, v-advance, v-arm, v-basic, v-count, v-half}
 
--- the word in the receiver after the start cell and j frame more, with these data bits
+-- the word in the receiver after the start cell and j cells more, with these data bits
 abbrev pub rx-at : Format → List Bool → ℕ → ℕ → Rx
 rx-at f bs j t =
     record { format = f; value = number (take j bs); position = pos j; parity = odd-ones (take j bs); error = 0; next = At t }
@@ -104,7 +104,7 @@ module _ (f : Format) (h : ℕ) (hi : Bool) (s d n : ℕ) where
   unfolding v-half v-basic v-advance v-arm
   idle = simp (and-false)
 
-  -- at minus two: at mark the word is Dropped, else it goes on
+  -- at minus two: at mark the word is dropped, else it goes on
   pub false-start : v-half (state f (Busy (rx-wait f (negsuc 1) (suc h))) h hi true s d n) ≡ state f Idle (suc h) (not hi) true s d n
   unfolding v-half v-basic v-advance v-arm sample-at
   false-start = rw (eq-eqb (suc h) (suc h) refl) (simp and-false)
@@ -147,7 +147,7 @@ module _ (f : Format) (h : ℕ) (hi : Bool) (s d n : ℕ) where
   stop-advance bs e =
       rw (eq-eqb (suc h) (suc h) refl, le-ltb (f .«data» + one-if (f .parity)) (f .«data») (omega arith), past-parity (f .«data») (f .parity), take-all (f .«data» + one-if (f .parity)) bs (omega (arith, e)))
 
-  -- the first stop cell, with the flags clear: the word is Whole
+  -- the first stop cell, with the flags clear: the word is whole
   pub stops-at : (bs : List Bool) → length bs ≡ f .«data»
       → v-half (state f (Busy (rx-at f bs (f .«data» + one-if (f .parity)) (suc h))) h hi true 0 d n)
       ≡ state f Idle (suc h) (not hi) true 0x40 (number bs) (suc n % 2 ^ 64)
