@@ -1,0 +1,43 @@
+//! Findings 1 and 2: open in document 01.
+use crate::Part;
+use model::{LIMIT, Oracle, bytes, decode, field_test, line, play};
+
+/// The longest input that the program takes.
+const INPUT: usize = 16_384;
+
+/// 1: neither 4 nor 8 can come from the program.
+pub fn printable() -> Vec<Part> {
+    let fresh = match field_test(&Oracle::fresh().state()) {
+        Ok(()) => "fresh port passes 8".into(),
+        Err(clause) => format!("fresh port fails 8: {clause}"),
+    };
+    let mut script = bytes("06 03");
+    while script.len() + 4 <= INPUT {
+        script.extend(bytes("03 FF FF 03"));
+    }
+    let (mut at, mut commands, mut halves) = (2, 0, 0);
+    while at < script.len() {
+        let (command, next) = decode(&script, at).expect("the script was just written");
+        (at, commands, halves) = (next, commands + 1, halves + command.a);
+    }
+    let bound = if halves < LIMIT { "below" } else { "above" };
+    vec![
+        Part::new("fresh port", "fresh port passes 8", fresh),
+        Part::new(
+            "06 03, then 03 FF FF 03 while 16384 bytes allow",
+            "4095 commands, 268365825 halves, below the limit",
+            format!("{commands} commands, {halves} halves, {bound} the limit"),
+        ),
+    ]
+}
+
+/// 2: capitals in the printed lines.
+pub fn capitals() -> Vec<Part> {
+    let script = "06 03 02 9A FF 03 20 02 98 FF 03 AF 01 01 98 FF 03";
+    let mut log = [0; 20];
+    let met = match play(&mut Oracle::fresh(), &bytes(script), &mut log) {
+        Ok(_) => line(&log[15..]),
+        Err(fault) => fault.to_string(),
+    };
+    vec![Part::new(script, "1 AF 84 - 0", met)]
+}

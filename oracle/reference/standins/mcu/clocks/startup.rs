@@ -1,0 +1,1 @@
+//! Stand-in: oscillator start-up, which the port does not see.
