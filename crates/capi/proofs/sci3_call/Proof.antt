@@ -1,0 +1,20 @@
+use Rattle.frame.proofs.Choose.{choose, orders}
+use Rattle.capi.proofs.Fits.{fits-length}
+use Rattle.capi.proofs.Answers.{answered-of, call-on-port, call-on-nothing}
+use Rattle.capi.proofs.sci3_call.Statement.{statement}
+use Rattle.capi.proofs.sci3_call.Tie as tie
+
+pub sci3-call-spec : {M : Type 1} → statement M
+sci3-call-spec =
+    tie.close
+    (tie.spec
+    (λ c κs. search (call-on-port, call-on-nothing, answered-of, fits-length, orders, choose))
+    (λ c κs. search (call-on-port, call-on-nothing, answered-of, fits-length, orders, choose))
+    (λ c κs. search (call-on-port, call-on-nothing, answered-of, fits-length, orders, choose))
+    (λ c κs. search (call-on-port, call-on-nothing, answered-of, fits-length, orders, choose))
+    (λ c. search (call-on-port, call-on-nothing, answered-of, fits-length, orders, choose))
+    (λ c. search (call-on-port, call-on-nothing, answered-of, fits-length, orders, choose))
+    (λ c. search (call-on-port, call-on-nothing, answered-of, fits-length, orders, choose))
+    (λ c. search (call-on-port, call-on-nothing, answered-of, fits-length, orders, choose))
+    (λ c. search (call-on-port, call-on-nothing, answered-of, fits-length, orders, choose))
+    (λ c. search (call-on-port, call-on-nothing, answered-of, fits-length, orders, choose)))

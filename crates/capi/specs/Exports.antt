@@ -1,0 +1,88 @@
+-- What each exported function answers, and what it leaves in the lent array.
+-- An answer below 256 is that of an accepted call; 256 and document 01's number is a refusal, and the array is then as it was.
+-- Assumes nothing.
+use Prim.Native.Nat.{ℕ, _+_, _*_}
+use mathlib.Core.Bool.{cond, _&&_}
+use mathlib.Core.List.{List}
+use lib.Dec.{eqb, leb}
+use lib.ListN.{length}
+use Rattle.frame.specs.Frame.{one-if}
+use Rattle.sci.specs.declared.Drive.{Drive}
+use Rattle.sci.specs.declared.Drive.the-variants.{Floating, Low, High}
+use Rattle.sci.specs.declared.Clock.{Clock}
+use Rattle.sci.specs.declared.Clock.the-variants.{Free, Driven}
+use Rattle.sci.specs.declared.Pins.{Pins}
+use Rattle.sci.specs.Calls.{Call, reads, writes, lets-pass, sets-line, sets-pins, sets-power, passes-inside, Answer, done, refused, direct}
+use Rattle.sci.specs.Pins.{pins, interrupt, level-number}
+use Rattle.sci.specs.Power.{fresh}
+use Rattle.capi.specs.State.{Decoded, a-port, nothing, decode, encode, port-max}
+
+-- an answer, and the array after it
+pub record Lent : Type 0 where
+  pub answer : ℕ
+  pub state : List ℕ
+
+abbrev pub lent : ℕ → List ℕ → Lent
+lent n s = record { answer = n; state = s }
+
+abbrev pub refusal : ℕ → ℕ
+refusal n = 256 + n
+
+-- ---- sci3_call
+-- the call of a kind; an operand that the kind does not have is not looked at
+unfoldable pub command : ℕ → ℕ → ℕ → Call
+command kind a b =
+    cond (eqb kind 1) (reads a)
+    (cond (eqb kind 2) (writes a b)
+    (cond (eqb kind 3) (lets-pass a)
+    (cond (eqb kind 4) (sets-line a)
+    (cond (eqb kind 5) (sets-pins a b)
+    (cond (eqb kind 6) (sets-power a) passes-inside)))))
+
+-- the value read, or 0, and the port after the call
+abbrev pub answered : List ℕ → Answer → Lent
+answered s (done v q) = lent v (encode q)
+answered s (refused n offset q) = lent (refusal n) s
+
+abbrev pub call-on : ℕ → ℕ → ℕ → List ℕ → Decoded → Lent
+call-on kind a b s nothing = lent (refusal 8) s
+call-on kind a b s (a-port p) =
+    cond (leb 1 kind && leb kind 7) (answered s (direct (command kind a b) p)) (lent (refusal 7) s)
+
+unfoldable pub call : ℕ → ℕ → ℕ → List ℕ → Lent
+call kind a b s = call-on kind a b s (decode s)
+
+-- ---- sci3_pins
+-- 0 where the clock pin is not the port's; else floating, low, high
+abbrev pub drive-number : Drive → ℕ
+drive-number Floating = 1
+drive-number Low = 2
+drive-number High = 3
+
+abbrev pub clock-number : Clock → ℕ
+clock-number Free = 0
+clock-number (Driven d) = drive-number d
+
+-- bits 0 and 1 the clock pin, 2 and 3 document 01's transmit level, 4 whether reception is enabled
+unfoldable pub pins-number : Pins → ℕ
+pins-number x = clock-number (x .clock) + (4 * level-number (x .transmit) + 16 * one-if (x .receive))
+
+abbrev pub pins-on : Decoded → ℕ
+pins-on nothing = refusal 8
+pins-on (a-port p) = pins-number (pins p)
+
+unfoldable pub pins-answer : List ℕ → ℕ
+pins-answer s = pins-on (decode s)
+
+-- ---- sci3_interrupt
+abbrev pub interrupt-on : Decoded → ℕ
+interrupt-on nothing = refusal 8
+interrupt-on (a-port p) = one-if (interrupt p)
+
+unfoldable pub interrupt-answer : List ℕ → ℕ
+interrupt-answer s = interrupt-on (decode s)
+
+-- ---- sci3_fresh
+-- whatever the array held, if it is as long as a state
+unfoldable pub fresh-state : List ℕ → Lent
+fresh-state s = cond (eqb (length s) (length port-max)) (lent 0 (encode fresh)) (lent (refusal 8) s)

@@ -1,0 +1,157 @@
+-- Commands read back, and accepted commands are encodings: the claims of specs/RoundTrip.antt on commands. They go by the number of operands,
+-- so that a new kind adds a line to each.
+-- Assumes nothing.
+use mathlib.Core.Path.{_≡_, refl, sym, ap, subst, _∙_}
+use mathlib.Core.List.{List, [], _∷_, _++_, append-nil}
+use Prim.Native.Nat.{ℕ, _+_, _≤_}
+use native.Mathlib.Omega.{arith}
+use lib.ListN.{length}
+use lib.Dec.{leb, eqb}
+use borrow.Author.Tests.{le-leb, leb-true, eqb-true}
+use Rattle.script.specs.declared.Fault.{Fault}
+use Rattle.script.specs.declared.Number.{Number}
+use Rattle.script.specs.declared.Number.the-variants.{Value, Refused}
+use Rattle.script.specs.declared.Operands.{Operands}
+use Rattle.script.specs.declared.Operands.the-variants.{None, One, Two, Unknown}
+use Rattle.script.specs.declared.Command.the-variants.{Read, Write, Wait, Line, Pins, Power, Inside}
+use Rattle.script.specs.declared.Decoded.{Decoded}
+use Rattle.script.specs.declared.Decoded.the-variants.{Command as Found, Refused as Refuses}
+use Rattle.script.specs.Number.{number-at}
+use Rattle.script.specs.Encode.{encode}
+use Rattle.script.specs.Command.{Row, kinds, look-up, operands-of, command-of, in-range, operand-at, and-then, with-operands, command-at}
+use Rattle.script.specs.Write.{bytes, InRange}
+use Rattle.script.specs.RoundTrip.{largest, Bytes, Stands, CommandsReadBack, CommandsAreEncodings}
+use Rattle.script.proofs.Numbers.{cond-with, first-part, second-part, side-by-side, numbers-read-back, numbers-are-encodings}
+
+-- ---- commands read back
+
+module _ (s : List ℕ) (at next k : ℕ) (small : k ≤ largest) where
+  none-back : operands-of k ≡ None → Stands (encode k ++ []) s at next → command-at s at ≡ Found (command-of k 0 0) next
+  none-back e t =
+      let u : Stands (encode k) s at next = rw append-nil at t in
+      ap (λ n. and-then n (λ k next. with-operands s k next (operands-of k))) (numbers-read-back s at k next u small) ∙ rw e
+
+  module _ (a m : ℕ) (ha : a ≤ m) (hm : m ≤ largest) where
+    -- an operand that stands at an offset
+    operand-back : {from to : ℕ} → Stands (encode a) s from to → operand-at m s from ≡ Value a to
+    operand-back {from} {to} t = ap (in-range m) (numbers-read-back s from a to t (omega arith)) ∙ rw (le-leb a m ha)
+
+    one-back : operands-of k ≡ One m → Stands (encode k ++ (encode a ++ [])) s at next → command-at s at ≡ Found (command-of k a 0) next
+    one-back e t =
+        let mid = at + length (encode k) in
+        let u : Stands (encode a) s mid next = rw append-nil at (second-part (encode k) (encode a ++ []) t) in
+        ap (λ n. and-then n (λ k next. with-operands s k next (operands-of k)))
+        (numbers-read-back s at k mid (first-part (encode k) (encode a ++ []) t) small)
+        ∙ rw e (ap (λ n. and-then n (λ a next. Found (command-of k a 0) next)) (operand-back u))
+
+  two-back : (a b m n : ℕ) → a ≤ m → b ≤ n → m ≤ largest → n ≤ largest → operands-of k ≡ Two m n → Stands (encode k ++ (encode a ++ (encode b ++ []))) s at next →
+      command-at s at ≡ Found (command-of k a b) next
+  two-back a b m n ha hb hm hn e t =
+      let mid = at + length (encode k) in
+      let t₂ = second-part (encode k) (encode a ++ (encode b ++ [])) t in
+      let u : Stands (encode b) s (mid + length (encode a)) next = rw append-nil at (second-part (encode a) (encode b ++ []) t₂) in
+      ap (λ n. and-then n (λ k next. with-operands s k next (operands-of k)))
+      (numbers-read-back s at k mid (first-part (encode k) (encode a ++ (encode b ++ [])) t) small)
+      ∙ rw e
+      (ap (λ v. and-then v (λ a second. and-then (operand-at n s second) (λ b next. Found (command-of k a b) next)))
+      (operand-back a m ha hm (first-part (encode a) (encode b ++ []) t₂))
+      ∙ ap (λ v. and-then v (λ b next. Found (command-of k a b) next)) (operand-back b n hb hn u))
+
+pub commands-read-back : CommandsReadBack
+commands-read-back s at next (Read a) t h = one-back s at next 1 (omega arith) a 65535 (h .0) (omega arith) refl t
+commands-read-back s at next (Write a v) t h = two-back s at next 2 (omega arith) a v 65535 255 (h .0) (h .1 .0) (omega arith) (omega arith) refl t
+commands-read-back s at next (Wait n) t h = one-back s at next 3 (omega arith) n 65535 (h .0) (omega arith) refl t
+commands-read-back s at next (Line l) t h = one-back s at next 4 (omega arith) l 1 (h .0) (omega arith) refl t
+commands-read-back s at next (Pins c l) t h = two-back s at next 5 (omega arith) c l 1 1 (h .0) (h .1 .0) (omega arith) (omega arith) refl t
+commands-read-back s at next (Power b) t h = one-back s at next 6 (omega arith) b 15 (h .0) (omega arith) refl t
+commands-read-back s at next Inside t h = none-back s at next 7 (omega arith) refl t
+
+-- ---- accepted commands are encodings
+
+-- what holds where reading goes on, and of every fault, holds of the whole
+pub and-then-with : (P : Decoded → Type 0) (n : Number) (f : ℕ → ℕ → Decoded) →
+    ((v next : ℕ) → n ≡ Value v next → P (f v next)) → ((why : Fault) → P (Refuses why)) → P (and-then n f)
+and-then-with P (Value v next) f p q = p v next refl
+and-then-with P (Refused why) f p q = q why
+
+-- an operand that is accepted is a number that is accepted, and within its limit
+pub operand-within : (m : ℕ) (n : Number) (v next : ℕ) → in-range m n ≡ Value v next → (n ≡ Value v next) × (v ≤ m)
+operand-within m (Value w to) v next e =
+    cond-with (λ r. r ≡ Value v next → (Value w to ≡ Value v next) × (v ≤ m)) (leb w m)
+    (λ t f. let g : w ≡ v = cc in (f, omega (arith, leb-true w m t)))
+    (λ t f. let z : _≡_ {A = ℕ} 0 1 = cc in absurd (omega arith))
+    e
+operand-within m (Refused why) v next e = let z : _≡_ {A = ℕ} 0 1 = cc in absurd (omega arith)
+
+-- what holds of every row of a table, and of a kind that is in none, holds of every kind
+abbrev EachRow : (ℕ → Operands → Type 0) → List Row → Type 0
+EachRow P [] = Unit {0}
+EachRow P (r ∷ rs) = P (r .kind) (r .operands) × EachRow P rs
+
+by-row : (P : ℕ → Operands → Type 0) → ((k : ℕ) → P k Unknown) → (rs : List Row) → EachRow P rs → (k : ℕ) → P k (look-up k rs)
+by-row P u [] h k = u k
+by-row P u (r ∷ rs) h k =
+    cond-with (P k) (eqb k (r .kind))
+    (λ t. subst (λ (j : ℕ). P j (r .operands)) (sym (eqb-true k (r .kind) t)) (h .0))
+    (λ t. by-row P u rs (h .1) k)
+
+abbrev Encoded : List ℕ → ℕ → Decoded → Type 0
+Encoded s at (Found c next) = Stands (bytes c) s at next × InRange c
+Encoded s at (Refuses why) = Unit {0}
+
+module _ (s : List ℕ) (good : Bytes s) (at mid : ℕ) where
+  -- the operands of a kind whose number ends at `mid`
+  abbrev From : ℕ → Operands → Type 0
+  From k o = Stands (encode k) s at mid → Encoded s at (with-operands s k mid o)
+
+  operand-stands : (m from v next : ℕ) → operand-at m s from ≡ Value v next → Stands (encode v) s from next × (v ≤ m)
+  operand-stands m from v next e =
+      let (f, h) = operand-within m (number-at s from) v next e in
+      (numbers-are-encodings s from v next good f .0, h)
+
+  module _ (k : ℕ) (m : ℕ) where
+    one-encoded : ((a : ℕ) → bytes (command-of k a 0) ≡ encode k ++ (encode a ++ [])) → ((a : ℕ) → a ≤ m → InRange (command-of k a 0)) → From k (One m)
+    one-encoded b r t =
+        and-then-with (Encoded s at) (operand-at m s mid) (λ a next. Found (command-of k a 0) next)
+        (λ a next e.
+        let (u, h) = operand-stands m mid a next e in
+        (rw (b a, append-nil) (side-by-side (encode k) (encode a) t u), r a h))
+        (λ why. tt)
+
+    two-encoded : (n : ℕ) → ((a b : ℕ) → bytes (command-of k a b) ≡ encode k ++ (encode a ++ (encode b ++ []))) →
+        ((a b : ℕ) → a ≤ m → b ≤ n → InRange (command-of k a b)) → From k (Two m n)
+    two-encoded n b r t =
+        and-then-with (Encoded s at) (operand-at m s mid) (λ x second. and-then (operand-at n s second) (λ y next. Found (command-of k x y) next))
+        (λ x second e.
+        let (u, h) = operand-stands m mid x second e in
+        and-then-with (Encoded s at) (operand-at n s second) (λ y next. Found (command-of k x y) next)
+        (λ y next f.
+        let (w, g) = operand-stands n second y next f in
+        (rw (b x y, append-nil) (side-by-side (encode k) (encode x ++ encode y) t (side-by-side (encode x) (encode y) u w)), r x y h g))
+        (λ why. tt))
+        (λ why. tt)
+
+  each-kind : EachRow From kinds
+  each-kind = (
+    one-encoded 1 65535 (λ a. refl) (λ a h. (h, tt)),
+    (
+      two-encoded 2 65535 255 (λ a b. refl) (λ a b h g. (h, (g, tt))),
+      (
+        one-encoded 3 65535 (λ a. refl) (λ a h. (h, tt)),
+        (
+          one-encoded 4 1 (λ a. refl) (λ a h. (h, tt)),
+          (
+            two-encoded 5 1 1 (λ a b. refl) (λ a b h g. (h, (g, tt))),
+            (one-encoded 6 15 (λ a. refl) (λ a h. (h, tt)), (λ t. (t, tt), tt)),
+          ),
+        ),
+      ),
+    ),
+  )
+
+pub commands-are-encodings : CommandsAreEncodings
+commands-are-encodings s at next c good e =
+    subst (Encoded s at) e
+    (and-then-with (Encoded s at) (number-at s at) (λ k mid. with-operands s k mid (operands-of k))
+    (λ k mid f. by-row (From s good at mid) (λ j t. tt) kinds (each-kind s good at mid) k (numbers-are-encodings s at k mid good f .0))
+    (λ why. tt))

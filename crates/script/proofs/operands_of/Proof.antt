@@ -1,0 +1,16 @@
+use Rattle.store.proofs.Choose.{choose}
+use Rattle.script.proofs.operands_of.Statement.{statement}
+use Rattle.script.proofs.operands_of.Tie as tie
+
+pub operands-of-spec : {M : Type 1} → statement M
+operands-of-spec =
+    tie.close
+    (tie.spec
+    (λ c. search choose depth 12)
+    (λ c. search choose depth 12)
+    (λ c. search choose depth 12)
+    (λ c. search choose depth 12)
+    (λ c. search choose depth 12)
+    (λ c. search choose depth 12)
+    (λ c. search choose depth 12)
+    (λ c. search choose depth 12))
