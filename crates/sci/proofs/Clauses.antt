@@ -23,7 +23,7 @@ use Rattle.sci.specs.declared.Sampled.the-variants.{Dropped, Onward, Who
 use Rattle.sci.specs.declared.Transmit.{Transmit}
 use Rattle.sci.specs.declared.Transmit.the-variants.{Released, Level}
 use Rattle.sci.specs.declared.Refusal.{Refusal}
-use Rattle.sci.specs.declared.Refusal.the-variants.{Address, Operand, Infrared, Count, State}
+use Rattle.sci.specs.declared.Refusal.the-variants.{Address, Operand, Infrared, Count, Short, Number, Kind, State, Full}
 use Rattle.sci.specs.declared.Outcome.{Outcome}
 use Rattle.sci.specs.declared.Outcome.the-variants.{Done, Refused}
 use Rattle.sci.specs.Calls.{Answer, number, answer-of}
@@ -48,8 +48,20 @@ number-infrared x z h e = e ∙ sym (ap (λ (t : Refusal). number t) h)
 pub number-count : (x : Refusal) (z : ℕ) → x ≡ Count → z ≡ number Count → z ≡ number x
 number-count x z h e = e ∙ sym (ap (λ (t : Refusal). number t) h)
 
+pub number-short : (x : Refusal) (z : ℕ) → x ≡ Short → z ≡ number Short → z ≡ number x
+number-short x z h e = e ∙ sym (ap (λ (t : Refusal). number t) h)
+
+pub number-number : (x : Refusal) (z : ℕ) → x ≡ Number → z ≡ number Number → z ≡ number x
+number-number x z h e = e ∙ sym (ap (λ (t : Refusal). number t) h)
+
+pub number-kind : (x : Refusal) (z : ℕ) → x ≡ Kind → z ≡ number Kind → z ≡ number x
+number-kind x z h e = e ∙ sym (ap (λ (t : Refusal). number t) h)
+
 pub number-state : (x : Refusal) (z : ℕ) → x ≡ State → z ≡ number State → z ≡ number x
 number-state x z h e = e ∙ sym (ap (λ (t : Refusal). number t) h)
+
+pub number-full : (x : Refusal) (z : ℕ) → x ≡ Full → z ≡ number Full → z ≡ number x
+number-full x z h e = e ∙ sym (ap (λ (t : Refusal). number t) h)
 
 pub answer-of-done : (x : Outcome) (c0 : ℕ) (y0 : Port) (z : Answer) → x ≡ Done c0 → z ≡ answer-of (Done c0) y0 → z ≡ answer-of x y0
 answer-of-done x c0 y0 z h e = e ∙ sym (ap (λ (t : Outcome). answer-of t y0) h)
@@ -402,7 +414,7 @@ rx-valid-idle x y0 z h e = e ∙ sym (ap (λ (t : Receiver). rx-valid t y0) h)
 pub rx-valid-busy : (x : Receiver) (c0 : Rx) (y0 : ℕ) (z : Bool) → x ≡ Busy c0 → z ≡ rx-valid (Busy c0) y0 → z ≡ rx-valid x y0
 rx-valid-busy x c0 y0 z h e = e ∙ sym (ap (λ (t : Receiver). rx-valid t y0) h)
 
-pub ruleset number-clauses = (number-address, number-operand, number-infrared, number-count, number-state)
+pub ruleset number-clauses = (number-address, number-operand, number-infrared, number-count, number-short, number-number, number-kind, number-state, number-full)
 
 pub ruleset answer-of-clauses = (answer-of-done, answer-of-refused)
 

@@ -7,7 +7,7 @@ use lib.Dec.{eqb, leb}
 use Rattle.frame.specs.Frame.{has}
 use Rattle.sci.specs.declared.Port.{Port}
 use Rattle.sci.specs.declared.Refusal.{Refusal}
-use Rattle.sci.specs.declared.Refusal.the-variants.{Address, Operand, Infrared, Count, State}
+use Rattle.sci.specs.declared.Refusal.the-variants.{Address, Operand, Infrared, Count, Short, Number, Kind, State, Full}
 use Rattle.sci.specs.declared.Outcome.{Outcome}
 use Rattle.sci.specs.declared.Outcome.the-variants.{Done, Refused}
 use Rattle.sci.specs.declared.Called.{Called}
@@ -83,7 +83,11 @@ number Address = 1
 number Operand = 2
 number Infrared = 3
 number Count = 4
+number Short = 5
+number Number = 6
+number Kind = 7
 number State = 8
+number Full = 9
 
 abbrev pub answer-of : Outcome → Port → Answer
 answer-of (Done v) p = done v p

@@ -156,13 +156,17 @@ pub struct Pins {
     pub receive: bool,
 }
 
-// Why a direct call is refused. `number` has document 01's numbers.
+// Why a call or a command is refused; a direct call meets Address to Count and State. `number` has document 01's numbers.
 pub enum Refusal {
     Address,
     Operand,
     Infrared,
     Count,
+    Short,
+    Number,
+    Kind,
     State,
+    Full,
 }
 
 pub enum Outcome {
@@ -1961,7 +1965,11 @@ impl Refusal {
             Refusal::Operand => 2,
             Refusal::Infrared => 3,
             Refusal::Count => 4,
+            Refusal::Short => 5,
+            Refusal::Number => 6,
+            Refusal::Kind => 7,
             Refusal::State => 8,
+            Refusal::Full => 9,
         }
     }
 }

@@ -1,0 +1,105 @@
+-- `play_on` meets its contract. The invariant: the whole run is the records so far, and then the run of the items from here on. The measure is what is
+-- left of the script.
+-- Assumes nothing.
+use borrow.Author.Needs.{needs}
+use native.Mathlib.Omega.{arith}
+use mathlib.Core.Path.{_≡_, refl, _∙_}
+use mathlib.Core.List.{List}
+use Prim.Native.Nat.{ℕ, _≤_, _-_}
+use lib.ListN.{length, take, drop}
+use borrow.Rule.Slice.PartMut.{putMid}
+use Rattle.script.specs.Items.{items}
+use Rattle.player.specs.Play.{recorded, play-items}
+use Rattle.player.specs.Step.{play-on}
+use Rattle.player.proofs.Laws.{GoesOn, none-recorded, goes-on, stands, same-long, finishes}
+use Rattle.player.proofs.play_on.Statement.{statement}
+use Rattle.player.proofs.play_on.Tie as tie
+
+abbrev Inv-loop : tie.InvT-loop
+Inv-loop script log₀ p₀ at₀ used₀ log p at used =
+    (used ≤ length log) × (length log ≡ length log₀) ×
+    (play-on p₀ script log₀ ≡ recorded (take used log) (play-items p (items script at) (drop used log)))
+
+abbrev μ-loop : tie.MeasureT-loop
+μ-loop script log₀ p₀ at₀ used₀ log p at used = length script - at
+
+-- a turn that goes on
+went : (c : tie.After-known-told2 Inv-loop μ-loop) →
+    GoesOn (play-on (c .before .before .before .before .before .before .before .before .before .before .before .args .port) (c .before .before .before .before .before .before .before .before .before .before .before .args .script .now) (c .before .before .before .before .before .before .before .before .before .before .before .args .log .now)) (c .before .before .before .before .before .before .before .before .loop .used) (c .before .before .before .before .before .before .before .before .before .before .before .args .script .now) (c .before .before .before .before .before .before .before .before .loop .at) (c .before .before .before .before .before .before .before .before .loop .log)
+    (putMid (c .before .before .before .before .before .before .before .before .loop .used) (length (c .before .before .before .before .before .before .before .before .loop .log) - c .before .before .before .before .before .before .before .before .loop .used) (c .before .before .before .before .before .before .before .before .loop .log) (c .before .before .before .before .before .step .last .1 .1 .1 .0))
+    (c .before .q .given .0 .0) (c .before .q .given .0 .1 .0)
+went c =
+    let l = c .before .before .before .before .before .before .before .before .loop in
+    goes-on _ (l .p) (l .used) (c .before .before .before .before .before .before .before .before .before .before .before .args .script .now) (l .at) (l .log) _ _ (l .inv .0) (c .before .before .before .before .before .before .before .loop-test .taken) (l .inv .2)
+    (c .before .before .before .before .before .step .ensures) (c .before .before .before .before .before .step .kept .1 .1 .1 .0) (c .before .q .given .1)
+
+loop-holds : tie.Need-loop-holds Inv-loop μ-loop
+loop-holds c = (search needs, refl, none-recorded _)
+
+sub-step : tie.Need-sub-step Inv-loop μ-loop
+sub-step c = search needs
+
+part-step-start : tie.Need-part-step-start Inv-loop μ-loop
+part-step-start c = search needs
+
+part-step-end : tie.Need-part-step-end Inv-loop μ-loop
+part-step-end c = search needs
+
+step-requires : tie.Need-step-requires Inv-loop μ-loop
+step-requires c κs = search needs
+
+enum-known-refusal : tie.Need-enum-known-refusal Inv-loop μ-loop
+enum-known-refusal c = search needs
+
+same-length : tie.Need-same-length Inv-loop μ-loop
+same-length c =
+    let l = c .before .before .before .before .before .before .before .before .loop in
+    same-long _ (l .p) (l .used) (c .before .before .before .before .before .before .before .before .before .before .before .args .script .now) (l .at) (l .log) (c .before .before .before .before .before .step .last .1 .1 .1 .0) (c .before .before .before .before .before .step .result) (l .inv .0) (c .before .before .before .before .before .before .before .loop-test .taken) (l .inv .2)
+    (c .before .before .before .before .before .step .ensures) (c .before .before .before .before .before .step .kept .1 .1 .1 .0) ∙ l .inv .1
+
+returns : tie.Need-returns Inv-loop μ-loop
+returns c =
+    let l = c .before .before .before .before .before .before .before .before .loop in
+    stands _ (l .p) (l .used) (c .before .before .before .before .before .before .before .before .before .before .before .args .script .now) (l .at) (l .log) _ _ (l .inv .0) (c .before .before .before .before .before .before .before .loop-test .taken) (l .inv .2)
+    (c .before .before .before .before .before .step .ensures) (c .before .before .before .before .before .step .kept .1 .1 .1 .0) (c .before .refusal .given .1)
+
+enum-known-q : tie.Need-enum-known-q Inv-loop μ-loop
+enum-known-q c = search needs
+
+add-used : tie.Need-add-used Inv-loop μ-loop
+add-used c = omega (arith, went c .room, went c .long, c .before .before .before .before .before .before .before .before .loop .inv .1)
+
+loop-less : tie.Need-loop-less Inv-loop μ-loop
+loop-less c = omega (arith, went c .later, c .before .before .before .before .before .before .before .loop-test .taken)
+
+loop-again : tie.Need-loop-again Inv-loop μ-loop
+loop-again c = (went c .room, went c .long ∙ c .before .before .before .before .before .before .before .before .loop .inv .1, went c .so-far)
+
+same-length-2 : tie.Need-same-length-2 Inv-loop μ-loop
+same-length-2 c = search needs
+
+returns-2 : tie.Need-returns-2 Inv-loop μ-loop
+returns-2 c =
+    let l = c .before .loop in
+    finishes _ (l .p) (l .used) (c .before .before .before .before .args .script .now) (l .at) (l .log) (l .inv .0) (c .loop-test .left) (l .inv .2)
+
+pub play-on-spec : {M : Type 1} → statement M
+play-on-spec =
+    tie.close
+    (tie.spec
+    Inv-loop
+    μ-loop
+    loop-holds
+    sub-step
+    part-step-start
+    part-step-end
+    step-requires
+    enum-known-refusal
+    same-length
+    returns
+    enum-known-q
+    add-used
+    loop-less
+    loop-again
+    same-length-2
+    returns-2)
