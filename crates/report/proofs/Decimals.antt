@@ -10,7 +10,7 @@ use lib.ListN.{length, getD, length-append}
 use lib.Dec.{ltb}
 use borrow.Author.Tests.{ltb-true, ltb-false}
 use Rattle.store.proofs.Laws.{split}
-use Rattle.report.specs.Decimal.{digits, value, DecimalsReadBack, NoLeadingZero}
+use Rattle.report.specs.Decimal.{digit, digits, value, DecimalsReadBack, NoLeadingZero}
 use Rattle.report.proofs.Laws.{few, many}
 
 -- one digit more
@@ -26,7 +26,7 @@ read-back (suc k) v h =
     (λ (t : ltb v 10 ≡ false).
     let g = many (suc k) v (ltb-false v 10 t) h in
     let down : suc k - 1 ≡ k = omega arith in
-    ap (value 0) (g .text) ∙ value-last 0 (digits (suc k - 1) (v / 10)) (48 + v % 10)
+    ap (value 0) (g .text) ∙ value-last 0 (digits (suc k - 1) (v / 10)) (digit (v % 10))
     ∙ rw down (omega (arith, read-back k (v / 10) (rw down at (g .rest)))))
     (split (ltb v 10))
 
@@ -56,7 +56,7 @@ leading (suc k) v p h =
     let g = many (suc k) v big h in
     let down : suc k - 1 ≡ k = omega arith in
     let rest : v / 10 < 10 * 10 ^ k = rw down at (g .rest) in
-    rw (g .text, down, first (digits k (v / 10)) (48 + v % 10) (not-empty k (v / 10))) (leading k (v / 10) (omega arith) rest))
+    rw (g .text, down, first (digits k (v / 10)) (digit (v % 10)) (not-empty k (v / 10))) (leading k (v / 10) (omega arith) rest))
     (split (ltb v 10))
 
 pub no-leading-zero : NoLeadingZero

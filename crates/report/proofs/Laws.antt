@@ -1,4 +1,4 @@
--- How a number is written in decimal: one digit, or the digits of its tenth and one more.
+-- How a number is written in decimal: one digit, or the digits of its tenth and one more. And texts stored in a buffer.
 -- Assumes nothing.
 use mathlib.Core.Path.{_≡_, refl, ap, _∙_}
 use mathlib.Core.Bool.{true, false}
@@ -13,15 +13,16 @@ use lib.Dec.{ltb}
 use borrow.Author.Tests.{lt-ltb, le-ltb}
 use Rattle.store.specs.Store.{Stored}
 use Rattle.store.proofs.Laws.{split, part-stored}
-use Rattle.report.specs.Decimal.{digits}
+use Rattle.report.specs.Decimal.{digit, digits}
+use Rattle.report.specs.Lines.{Printed, printed, line}
 
-pub few : (k v : ℕ) → v < 10 → digits k v ≡ (48 + v) ∷ []
+pub few : (k v : ℕ) → v < 10 → digits k v ≡ digit v ∷ []
 few zero v h = refl
 few (suc k) v h = rw (lt-ltb v 10 h)
 
 pub record Many (m v : ℕ) : Type 0 where
   pub more : 1 ≤ m
-  pub text : digits m v ≡ digits (m - 1) (v / 10) ++ ((48 + v % 10) ∷ [])
+  pub text : digits m v ≡ digits (m - 1) (v / 10) ++ (digit (v % 10) ∷ [])
   pub long : length (digits m v) ≡ length (digits (m - 1) (v / 10)) + 1
   pub rest : v / 10 < 10 * 10 ^ (m - 1)
 
@@ -30,8 +31,8 @@ many zero v h g = absurd (omega arith)
 many (suc k) v h g =
     let g′ : v < 10 * (10 * 10 ^ k) = rw (pow-step 10 k) at g in
     let down : suc k - 1 ≡ k = omega arith in
-    let text : digits (suc k) v ≡ digits (suc k - 1) (v / 10) ++ ((48 + v % 10) ∷ []) = rw (le-ltb v 10 h, down) in
-    record { more = omega arith; text = text; long = ap length text ∙ length-append (digits (suc k - 1) (v / 10)) ((48 + v % 10) ∷ []); rest = rw down (omega arith) }
+    let text : digits (suc k) v ≡ digits (suc k - 1) (v / 10) ++ (digit (v % 10) ∷ []) = rw (le-ltb v 10 h, down) in
+    record { more = omega arith; text = text; long = ap length text ∙ length-append (digits (suc k - 1) (v / 10)) (digit (v % 10) ∷ []); rest = rw down (omega arith) }
 
 -- at most k digits after the first
 pub digits-long : (k v : ℕ) → length (digits k v) ≤ k + 1
@@ -46,3 +47,14 @@ digits-long (suc k) v =
 pub copied : (at n : ℕ) (text buf ys : List ℕ) → n ≡ length text → ys ≡ take (length text) text ++ drop (length text) (take (length buf - at) (drop at buf)) →
     Stored at text buf (at + n) (putMid at (length buf - at) buf ys)
 copied at n text buf ys l e = part-stored at n text buf ys l (e ∙ rw (take-length text))
+
+-- a text stored at the front of the buffer is a line there
+pub at-front : {text buf after : List ℕ} {to : ℕ} → Stored 0 text buf to after → printed to after ≡ line text buf
+at-front {text} s = let front : 0 + length text ≡ length text = omega arith in rw (s .end, s .buffer, front)
+
+-- a line lies within its buffer: what a caller of `end_line` or `refused_line` needs to lend the line on
+pub line-within : (text buf after : List ℕ) (to : ℕ) → printed to after ≡ line text buf → to ≤ length after
+line-within text buf after to e =
+    let long : to ≡ length text = ap (λ (p : Printed). p .answer) e in
+    let all : after ≡ text ++ drop (length text) buf = ap (λ (p : Printed). p .buffer) e in
+    omega (arith, ap length all ∙ length-append text (drop (length text) buf))

@@ -2,17 +2,20 @@
 -- Assumes nothing.
 use mathlib.Core.Path.{_≡_, refl, sym, ap, _∙_}
 use mathlib.Core.Bool.{Bool, true, false, cond, _&&_, _||_, false≢true}
+use mathlib.Core.Logic.{⊎-elim}
 use mathlib.Core.List.{List, [], _∷_, _++_, append-nil}
 use Prim.Native.Nat.{ℕ, zero, suc, _+_, _-_, _*_, _/_, _%_, _^_, _≤_, _<_}
 use native.Mathlib.Omega.{arith, pow-step}
 use native.Mathlib.Numerals.{add-one}
 use native.Mathlib.Nat.{pow-le-pow-right}
-use lib.ListN.{length, getD, take, drop, set, length-set, drop-of-length-le}
+use lib.ListN.{length, getD, take, drop, set, length-set, length-drop, drop-of-length-le}
 use lib.Seq.{drop-cons, take-all}
 use lib.Dec.{ltb, eqb}
+use borrow.Rule.Slice.PartAt.{part-to-end}
 use borrow.Rule.Slice.PartMut.{putMid, same-len-mid}
 use borrow.Author.Tests.{lt-ltb, le-ltb, ltb-false, eqb-false}
 use borrow.Author.Needs.{needs}
+use Rattle.store.proofs.Laws.{split}
 use Rattle.script.specs.declared.Fault.{Fault}
 use Rattle.script.specs.declared.Fault.the-variants.{Short, Number as NotANumber}
 use Rattle.script.specs.declared.Number.{Number}
@@ -122,6 +125,15 @@ pub small : (k v : ℕ) → v < 128 → encode-in k v ≡ v ∷ []
 small zero v h = refl
 small (suc k) v h = rw (lt-ltb v 128 h)
 
+-- a number in at most k bytes after the first
+pub encode-short : (k v : ℕ) → length (encode-in k v) ≤ k + 1
+encode-short zero v = omega arith
+encode-short (suc k) v =
+    ⊎-elim
+    (λ (t : ltb v 128 ≡ true). rw t (omega arith))
+    (λ (t : ltb v 128 ≡ false). rw t (omega (arith, encode-short k (v / 128))))
+    (split (ltb v 128))
+
 -- how many bytes a number takes, by its size
 module _ (v : ℕ) where
   pub long-1 : v < 128 → length (encode v) ≡ 1
@@ -168,10 +180,9 @@ large (suc k) v h g =
     let bytes : encode-in (suc k) v ≡ (v % 128 + 128) ∷ encode-in (suc k - 1) (v / 128) = rw (le-ltb v 128 h, down) in
     record { more = omega arith; bytes = bytes; long = ap length bytes; rest = rw down (omega arith) }
 
--- the part of a buffer after its first byte, which was just stored
-pub after-first : (buf : List ℕ) (b : ℕ) → 1 ≤ length buf → take (length (set buf 0 b) - 1) (drop 1 (set buf 0 b)) ≡ drop 1 buf
-after-first [] b h = absurd (omega arith)
-after-first (x ∷ xs) b h = take-all (suc (length xs) - 1) xs (omega arith)
+-- room in the part of a buffer after its first byte, which was just stored
+pub room-behind : (buf : List ℕ) (b n : ℕ) → suc n ≤ length buf → n ≤ length (take (length (set buf 0 b) - 1) (drop 1 (set buf 0 b)))
+room-behind buf b n h = rw (part-to-end (set buf 0 b) 1, length-drop 1 (set buf 0 b), length-set buf 0 b) (omega arith)
 
 -- the buffer, once that part is back in its place with the bytes `vs` at its front
 pub joined : (buf ys vs : List ℕ) (b : ℕ) → 1 ≤ length buf →

@@ -4,3 +4,4 @@ pub mod Writes
 pub mod Numbers
 pub mod Commands
 pub mod Items
+pub mod Slices

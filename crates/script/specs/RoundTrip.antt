@@ -18,7 +18,7 @@ use Rattle.script.specs.Write.{bytes, InRange}
 abbrev pub largest : ℕ
 largest = 4294967295
 
--- every element is a byte
+-- every element is a byte, as in every lent slice of `u8` (proofs/Slices.antt)
 abbrev pub Bytes : List ℕ → Type 0
 Bytes [] = Unit {0}
 Bytes (b ∷ s) = (b < 256) × Bytes s

@@ -13,7 +13,7 @@ use lib.Seq.{length-take-le, take-append-add, drop-append-add, take-append-seam,
 use borrow.Rule.Slice.PartAt.{part-to-end}
 use borrow.Rule.Slice.PartMut.{putMid}
 use borrow.Author.Tests.{le-leb, lt-leb, leb-true, leb-false}
-use Rattle.store.specs.Store.{store, Stored}
+use Rattle.store.specs.Store.{store, StoreKeepsLength, Stored}
 
 pub split : (b : Bool) → (b ≡ true) ⊎ (b ≡ false)
 split true = inl refl
@@ -26,6 +26,11 @@ by-difference len at n h =
     (λ (t : leb n (len - at) ≡ true). t ∙ sym (le-leb (at + n) len (omega (arith, leb-true n (len - at) t))))
     (λ (t : leb n (len - at) ≡ false). t ∙ sym (lt-leb (at + n) len (omega (arith, leb-false n (len - at) t))))
     (split (leb n (len - at)))
+
+pub store-keeps-length : StoreKeepsLength
+store-keeps-length at bs buf h =
+    let cut : length (take at buf) ≡ at = length-take-le at buf (omega arith) in
+    simp (length-append, length-drop, cut) (omega arith)
 
 -- bytes written at the front of the part from `at` on, which is then `ys`
 pub part-stored : (at n : ℕ) (bs buf ys : List ℕ) → n ≡ length bs → ys ≡ bs ++ drop (length bs) (take (length buf - at) (drop at buf)) →
@@ -58,15 +63,10 @@ store-store at x y buf h =
     let sum : at + length x + length y ≡ at + (length x + length y) = omega arith in
     rw (front at x rest buf h, back at (length y) x rest buf h, drop-drop (length y) (at + length x) buf, append-assoc, length-append x y, append-assoc, sum)
 
-store-length : (at : ℕ) (bs buf : List ℕ) → at + length bs ≤ length buf → length (store at bs buf) ≡ length buf
-store-length at bs buf h =
-    let cut : length (take at buf) ≡ at = length-take-le at buf (omega arith) in
-    simp (length-append, length-drop, cut) (omega arith)
-
 module _ {at to : ℕ} {x b₀ b₁ : List ℕ} where
   -- then n bytes more fit
   pub room-after : (n : ℕ) → Stored at x b₀ to b₁ → at + (length x + n) ≤ length b₀ → to + n ≤ length b₁
-  room-after n s h = rw (s .end, s .buffer, store-length at x b₀ (omega arith)) (omega arith)
+  room-after n s h = rw (s .end, s .buffer, store-keeps-length at x b₀ (omega arith)) (omega arith)
 
   pub both-stored : {to₂ : ℕ} {y b₂ : List ℕ} → at ≤ length b₀ → Stored at x b₀ to b₁ → Stored to y b₁ to₂ b₂ → Stored at (x ++ y) b₀ to₂ b₂
   both-stored {to₂} {y} {b₂} h s t =

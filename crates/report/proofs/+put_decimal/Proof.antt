@@ -1,6 +1,6 @@
 use native.Mathlib.Omega.{arith}
 use mathlib.Core.Path.{ap}
-use Prim.Native.Nat.{_+_, _%_, ℕ, _<_}
+use Prim.Native.Nat.{ℕ, _<_}
 use lib.ListN.{length, length-set}
 use borrow.Author.Needs.{needs}
 use Rattle.store.proofs.Laws.{byte-stored, room-after, both-stored}
@@ -35,7 +35,7 @@ pub +put-decimal-spec : {M : Type 1} → statement M
     (λ c.
     let a = c .before .before .args in
     let e = few (a .more) (a .v) (c .if1 .taken) in
-    rw e (byte-stored (a .at) (48 + a .v) (a .buf .now) (omega (arith, ap length e, c .before .before .pre .1 .1))))
+    rw e (byte-stored (a .at) _ (a .buf .now) (omega (arith, ap length e, c .before .before .pre .1 .1))))
     (λ c.
     let a = c .before .before .before .args in
     omega (arith, many (a .more) (a .v) (c .before .if1 .left) (c .before .before .before .pre .1 .0) .more))
@@ -62,4 +62,4 @@ pub +put-decimal-spec : {M : Type 1} → statement M
     let room = room-after 1 (c .before .before .put-decimal .ensures) (omega (arith, g .long, c .before .before .before .before .before .before .pre .1 .1)) in
     rw (g .text)
     (both-stored (omega (arith, c .before .before .before .before .before .before .pre .1 .1)) (c .before .before .put-decimal .ensures)
-    (byte-stored (c .before .before .put-decimal .result) (48 + a .v % 10) (c .before .before .put-decimal .last .0) (omega arith))))
+    (byte-stored (c .before .before .put-decimal .result) _ (c .before .before .put-decimal .last .0) (omega arith))))

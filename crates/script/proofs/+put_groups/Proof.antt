@@ -1,11 +1,12 @@
 use native.Mathlib.Omega.{arith}
 use mathlib.Core.Path.{refl, ap, _∙_}
 use mathlib.Core.List.{[], _∷_}
-use Prim.Native.Nat.{_+_, _-_, _%_, _/_, ℕ, _<_}
-use lib.ListN.{length, length-set, length-drop}
+use Prim.Native.Nat.{_-_, _/_, ℕ, _<_}
+use lib.ListN.{length, length-set}
 use lib.Seq.{sets-eq}
+use borrow.Author.Needs.{needs}
 use Rattle.script.specs.Encode.{encode-in}
-use Rattle.script.proofs.Laws.{small, large, after-first, joined, kept-long}
+use Rattle.script.proofs.Laws.{small, large, room-behind, joined, kept-long}
 use borrow.Fn.Kinds.{In}
 use borrow.Fn.PlainCycle.{Measures, is, falls, and}
 use Rattle.script.proofs.put_groups.Reads as put-groups
@@ -56,19 +57,19 @@ pub +put-groups-spec : {M : Type 1} → statement M
     omega (arith, g .more))
     (λ c κs.
     let a = c .before .before .before .args in
-    let fits = c .before .before .before .pre .1 .1 in
-    let g = large (a .more) (a .v) (c .before .if1 .left) (c .before .before .before .pre .1 .0) in
-    let part = after-first (a .buf .now) (a .v % 128 + 128) (omega (arith, g .long, fits)) in
-    (omega (arith, c .before .before .before .pre .0, g .more), (g .rest, rw part (omega (arith, g .long, fits, length-drop 1 (a .buf .now))))))
+    let g = large (a .more) (a .v) (c .before .if1 .left) (c .before .before .before .pre .1 .0) in (
+      omega (arith, c .before .before .before .pre .0, g .more),
+      (g .rest, room-behind (a .buf .now) _ _ (omega (arith, g .long, c .before .before .before .pre .1 .1))),
+    ))
     (λ c.
     let a = c .before .before .before .before .before .before .args in
     let g = large (a .more) (a .v) (c .before .before .before .before .if1 .left) (c .before .before .before .before .before .before .pre .1 .0) in
     omega (arith, g .long, c .before .before .before .before .before .before .pre .1 .1, c .before .before .put-groups .ensures .0, c .before .before .before .before .before .before .good .0 .0))
-    (λ c. let a = c .before .before .before .before .before .before .args in kept-long (a .buf .now) (c .before .before .put-groups .last .0) (a .v % 128 + 128) (c .before .before .put-groups .kept .0))
+    (λ c. search (kept-long, needs))
     (λ c.
     let a = c .before .before .before .before .before .before .args in
     let g = large (a .more) (a .v) (c .before .before .before .before .if1 .left) (c .before .before .before .before .before .before .pre .1 .0) in (
       omega (arith, g .long, c .before .before .put-groups .ensures .0),
-      joined (a .buf .now) _ (encode-in (a .more - 1) (a .v / 128)) (a .v % 128 + 128) (omega (arith, g .long, c .before .before .before .before .before .before .pre .1 .1))
+      joined (a .buf .now) _ (encode-in (a .more - 1) (a .v / 128)) _ (omega (arith, g .long, c .before .before .before .before .before .before .pre .1 .1))
           (c .before .before .put-groups .ensures .1) ∙ rw (g .bytes) refl,
     ))
