@@ -5,7 +5,7 @@ ghost use Prim.Native.Nat.{_≤_};
 ghost use lib.ListN.{length, drop};
 ghost use Rattle.frame.specs.Frame.{one-if};
 ghost use Rattle.sci.specs.Calls.{direct, answer};
-ghost use Rattle.player.specs.Play.{record-length, call-of, record-of, play, ran};
+ghost use Rattle.player.specs.Play.{record-length, call-of, record-of, play, end-number, end-offset, ran};
 ghost use Rattle.player.specs.Step.{refusal-of, play-on, stepped, step};
 use sci::Called;
 use sci::Outcome;
@@ -104,6 +104,28 @@ pub enum End {
     Accepted,
     // The command whose first byte stands at this offset was refused.
     Refused { refusal: Refusal, offset: usize },
+}
+
+impl End {
+    // Document 01's number; 0 where the script was accepted.
+    pub fn number(self) -> u8
+        ensures { λ r. ⌜ r ≡ end-number self ⌝ }
+    {
+        match self {
+            End::Accepted => 0,
+            End::Refused { refusal, offset: _ } => refusal.number(),
+        }
+    }
+
+    // The offset of the refused command's first byte, else 0.
+    pub fn offset(self) -> usize
+        ensures { λ r. ⌜ r ≡ end-offset self ⌝ }
+    {
+        match self {
+            End::Accepted => 0,
+            End::Refused { refusal: _, offset } => offset,
+        }
+    }
 }
 
 // What playing hands back: the last port (at a refusal, as before the refused command), and how many bytes of the log are written.
