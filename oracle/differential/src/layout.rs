@@ -25,6 +25,9 @@ pub const MOST: Words = {
     ]
 };
 
+/// The place of the half count.
+pub const HALF: usize = 14;
+
 /// The places of a sender and of a receiver that a state without one leaves
 /// unused, and of the holding place.
 const HOLDING: usize = 17;
@@ -119,7 +122,7 @@ pub fn encode(s: &State) -> Words {
     {
         *place = bit.into();
     }
-    words[14] = s.half.into();
+    words[HALF] = s.half.into();
     words[15] = s.high.into();
     words[16] = s.edge.into();
     if let Some(byte) = s.holding {
@@ -194,7 +197,7 @@ pub(crate) fn read(words: &Words) -> State {
         main: bit(11),
         sub: bit(12),
         reset_mode: bit(13),
-        half: half(14),
+        half: half(HALF),
         high: bit(15),
         edge: bit(16),
         holding: bit(HOLDING).then(|| byte(HOLDING + 1)),

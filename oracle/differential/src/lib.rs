@@ -1,6 +1,7 @@
 //! The oracle and the proved port, compared call by call. Each call is made on
 //! both; then the answer, every field of the state, the transmit level, the
-//! clock drive and the interrupt request must be the same.
+//! clock drive and the interrupt request must be the same. `scripts` does so
+//! with whole scripts.
 pub mod alter;
 #[cfg(feature = "capi")]
 pub mod capi;
@@ -11,6 +12,7 @@ pub mod layout;
 pub mod lists;
 pub mod port;
 pub mod run;
+pub mod scripts;
 pub mod shrink;
 pub mod states;
 

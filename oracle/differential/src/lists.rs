@@ -50,6 +50,16 @@ pub fn list(seed: u64) -> (&'static str, Vec<Command>) {
     (name, calls)
 }
 
+/// A list of one profile, waits whole.
+pub fn of_profile(profile: usize, seed: u64) -> Vec<Command> {
+    let mut list = List {
+        r: Random::new(seed),
+        calls: Vec::new(),
+    };
+    (PROFILES[profile].1)(&mut list);
+    list.calls
+}
+
 /// Each wait of a word's length or less as single halves.
 pub fn halves_apart(calls: Vec<Command>) -> Vec<Command> {
     let single = |c: Command| match c {

@@ -96,26 +96,38 @@ impl Search<'_> {
         let Start::Given(given) = self.best.start.clone() else {
             return false;
         };
-        let fresh = fresh();
-        let passes = field_test(&given).is_ok();
         let mut smaller = false;
-        for plain in PLAIN {
-            let Start::Given(mut state) = self.best.start.clone() else {
-                return smaller;
-            };
-            let before = state;
-            plain(&mut state, &fresh);
-            if state == before || field_test(&state).is_ok() != passes {
-                continue;
-            }
+        let mut which = 0;
+        let mut state = given;
+        while let Some(plain) = plainer(&state, &mut which) {
             let case = Case {
-                start: Start::Given(state),
+                start: Start::Given(plain),
                 calls: self.best.calls.clone(),
             };
-            smaller |= self.take(case);
+            if self.take(case) {
+                smaller = true;
+                state = plain;
+            }
         }
         smaller
     }
+}
+
+/// The state with one more field as in a fresh port, the first from `which`
+/// on that changes it. What passes the field test goes on passing it, and the
+/// reverse.
+pub fn plainer(state: &State, which: &mut usize) -> Option<State> {
+    let fresh = fresh();
+    let passes = field_test(state).is_ok();
+    while let Some(plain) = PLAIN.get(*which) {
+        *which += 1;
+        let mut other = *state;
+        plain(&mut other, &fresh);
+        if other != *state && field_test(&other).is_ok() == passes {
+            return Some(other);
+        }
+    }
+    None
 }
 
 fn fresh() -> State {

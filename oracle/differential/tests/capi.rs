@@ -5,6 +5,7 @@ use differential::{
     capi::{CapiPort, arrays},
     document,
     run::{Plan, Sides, report, run},
+    scripts::{self, calls::CallsPlayer, player::Player, run::Part},
 };
 
 #[test]
@@ -35,5 +36,21 @@ fn sides_agree() {
     };
     if let Some(found) = run(&mut sides, &plan, None).found {
         panic!("{}", report(&mut sides, &found, None));
+    }
+}
+
+/// Scripts over the proved direct calls, which tries them in the order of a
+/// script and the two small calls after each.
+#[test]
+fn scripts_over_calls_agree() {
+    let make = || -> Box<dyn Player> { Box::new(CallsPlayer::new(CapiPort::default())) };
+    for walk in scripts::run::gate(10_000, 1) {
+        let thin = match walk.part {
+            Part::Three => walk.every(1009),
+            _ => walk.every(walk.step * 3),
+        };
+        if let Some(found) = scripts::run::run(&make, &thin, None, 2).found {
+            panic!("{}", scripts::run::report(&make, &found));
+        }
     }
 }

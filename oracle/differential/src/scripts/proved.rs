@@ -1,0 +1,125 @@
+//! The proved player, through its C function. It answers 0 or document 01's
+//! number; the offset and the log bytes written come through a third array.
+use super::{
+    make::Script,
+    player::{Played, Player},
+};
+use crate::{
+    compare::Start,
+    layout::{LENGTH, MOST, Words, encode, read},
+    states,
+};
+
+// A lent array is its address and its length; `out` is always two numbers.
+unsafe extern "C" {
+    fn sci3_play(
+        state: *mut u64,
+        state_length: usize,
+        script: *const u8,
+        script_length: usize,
+        log: *mut u8,
+        log_length: usize,
+        out: *mut u64,
+    ) -> u64;
+}
+
+#[derive(Default)]
+pub struct ProvedPlayer;
+
+impl Player for ProvedPlayer {
+    fn play(&mut self, state: &mut [u64], script: &[u8], log: &mut [u8]) -> Result<Played, String> {
+        // Numbers that no run gives, so that one not written shows.
+        let mut out = [u64::MAX; 2];
+        // Safe: each address and length are those of one array, lent for the
+        // call only, and no two of them overlap.
+        let number = unsafe {
+            sci3_play(
+                state.as_mut_ptr(),
+                state.len(),
+                script.as_ptr(),
+                script.len(),
+                log.as_mut_ptr(),
+                log.len(),
+                out.as_mut_ptr(),
+            )
+        };
+        if number > 9 {
+            return Err(format!("sci3_play answers {number}"));
+        }
+        let [offset, written] = out;
+        Ok(Played {
+            number,
+            offset,
+            written,
+        })
+    }
+}
+
+const LOG: [u8; 16] = [0xa5; 16];
+
+/// Arrays that are no state: each is refused with 8, and nothing is touched.
+/// Then places that are not in use, with other numbers there: every script
+/// gives the same. How many were tried, and what differs.
+pub fn arrays(seed: u64) -> (u64, Vec<String>) {
+    let mut wrong = Vec::new();
+    let mut tried = 0;
+    let mut refused = |what: &str, words: &[u64]| {
+        for script in [&[][..], &[7], &[8], &[6, 3, 3, 1]] {
+            tried += 1;
+            let (mut state, mut log) = (words.to_vec(), LOG);
+            let expected = Played {
+                number: 8,
+                ..Played::default()
+            };
+            let met = ProvedPlayer.play(&mut state, script, &mut log);
+            if met != Ok(expected) {
+                wrong.push(format!("{what}: {met:?}, not 8"));
+            }
+            if state != words || log != LOG {
+                wrong.push(format!("{what}: state or log is changed"));
+            }
+        }
+    };
+    let fresh = super::player::first_words(&Start::Fresh);
+    for length in (0..LENGTH).chain(LENGTH + 1..LENGTH + 12) {
+        let mut words = fresh.to_vec();
+        words.resize(length, 0);
+        refused(&format!("length {length}"), &words);
+    }
+    for (place, most) in MOST.into_iter().enumerate() {
+        let Some(above) = most.checked_add(1) else {
+            continue;
+        };
+        for number in [above, above | 1 << 40, u64::MAX] {
+            let mut words = fresh;
+            words[place] = number;
+            refused(&format!("{number} at place {place}"), &words);
+        }
+    }
+    for seed in seed..seed + 1000 {
+        let case = states::given(seed);
+        let Start::Given(state) = case.start else {
+            continue;
+        };
+        let script = Script::of(&case.calls).bytes;
+        let mut log = vec![0xa5; 5 * case.calls.len()];
+        let mut expected = encode(&state);
+        let played = ProvedPlayer.play(&mut expected, &script, &mut log);
+        for place in 17..51 {
+            let mut words: Words = encode(&state);
+            let plain = words[place];
+            words[place] = MOST[place];
+            if plain == MOST[place] || read(&words) != state {
+                continue;
+            }
+            tried += 1;
+            let mut other = vec![0xa5; log.len()];
+            let met = ProvedPlayer.play(&mut words, &script, &mut other);
+            // Where nothing ran, the place may stand as it was lent.
+            if met != played || other != log || read(&words) != read(&expected) {
+                wrong.push(format!("place {place} is not in use and counts: {state:?}"));
+            }
+        }
+    }
+    (tried, wrong)
+}
