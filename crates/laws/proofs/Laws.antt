@@ -142,11 +142,12 @@ not-8 (inr (inl e)) = omega arith
 not-8 (inr (inr (inl e))) = omega arith
 not-8 (inr (inr (inr (inl e)))) = omega arith
 
+pub passing-not-8 : (c : Call) (p q : Port) (offset : ℕ) → valid p ≡ true → direct c p ≡ refused 8 offset q → ⊥
+passing-not-8 c p q offset e r = not-8 (subst (Stands p four) r (stands p four (direct c p) (passing-tested c p e)) .2)
+
 pub never-refused-by-8 : Never-refused-by-8
 unfolding Never-refused-by-8 Grown-passes
-never-refused-by-8 cs c offset q r =
-    let p : Port = run fresh cs in
-    not-8 (subst (Stands p four) r (stands p four (direct c p) (passing-tested c p (grown-passes cs))) .2)
+never-refused-by-8 cs c offset q r = passing-not-8 c (run fresh cs) q offset (grown-passes cs) r
 
 -- ---- the tallies
 pub tallies-wrap : Tallies-wrap
