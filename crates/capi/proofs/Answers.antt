@@ -2,9 +2,10 @@
 -- Assumes nothing.
 use mathlib.Core.Path.{_≡_, sym, ap, _∙_}
 use mathlib.Core.Bool.{Bool, true, false, cond, _&&_}
-use mathlib.Core.List.{List}
+use mathlib.Core.List.{List, [], _∷_}
 use Prim.Native.Nat.{ℕ, _+_, _*_}
-use lib.Dec.{leb}
+use lib.Dec.{eqb, leb}
+use borrow.Author.Tests.{eq-eqb, ne-eqb}
 use Rattle.frame.specs.Frame.{one-if}
 use Rattle.sci.specs.declared.Port.{Port}
 use Rattle.sci.specs.declared.Pins.{Pins}
@@ -14,8 +15,10 @@ use Rattle.sci.specs.declared.Outcome.the-variants.{Done, Refused}
 use Rattle.sci.specs.declared.Refusal.{Refusal}
 use Rattle.sci.specs.Calls.{Call, Answer, direct, answer, answer-of, number}
 use Rattle.sci.specs.Pins.{pins, interrupt, level-number}
+use Rattle.player.specs.declared.Played.{Played}
+use Rattle.player.specs.Play.{Run, play, end-number, end-offset, ran}
 use Rattle.capi.specs.State.{a-port, nothing, decode, encode, port-max, port-in, fits}
-use Rattle.capi.specs.Exports.{Lent, lent, refusal, command, answered, call-on, call, clock-number, pins-number, pins-on, pins-answer, interrupt-on, interrupt-answer}
+use Rattle.capi.specs.Exports.{Lent, lent, refusal, command, answered, call-on, call, clock-number, pins-number, pins-on, pins-answer, interrupt-on, interrupt-answer, Playing, playing, run-left, play-on, played}
 
 -- ---- what the array holds, by the flag that the test gave
 decoded : (f : Bool) (s : List ℕ) → f ≡ fits port-max s → f ≡ true → decode s ≡ a-port (port-in s)
@@ -74,3 +77,23 @@ interrupt-on-nothing f s e t = sym (ap interrupt-on (undecoded f s e t))
 -- ---- sci3_fresh
 pub fresh-eq : (n : ℕ) (e w : List ℕ) (p q : Port) → e ≡ w → w ≡ encode p → p ≡ q → lent n e ≡ lent n (encode q)
 fresh-eq n e w p q h k l = ap (lent n) (h ∙ k ∙ ap encode l)
+
+-- ---- sci3_play
+pub put-left : (s : List ℕ) (n : ℕ) (p : Port) → n ≡ 8 → s ≡ cond (eqb n 8) s (encode p)
+put-left s n p h = sym (ap (λ (b : Bool). cond b s (encode p)) (eq-eqb n 8 h))
+
+pub put-port : (s e w : List ℕ) (n : ℕ) (p : Port) → (n ≡ 8 → ⊥) → e ≡ w → w ≡ encode p → e ≡ cond (eqb n 8) s (encode p)
+put-port s e w n p h k l = k ∙ l ∙ sym (ap (λ (b : Bool). cond b s (encode p)) (ne-eqb n 8 h))
+
+pub play-on-port : (f : Bool) (s script log e l : List ℕ) (n offset : ℕ) (r : Played) (p : Port) → f ≡ fits port-max s → f ≡ true → ran r l ≡ play p script log → p ≡ port-in s
+    → n ≡ end-number (r .end) → offset ≡ end-offset (r .end) → e ≡ cond (eqb n 8) s (encode (r .port)) → playing n (offset ∷ r .used ∷ []) e l ≡ played s script log
+unfolding played
+play-on-port f s script log e l n offset r p hf ht hr hp hn ho he =
+    ap (λ (x : List ℕ). playing n (offset ∷ r .used ∷ []) x l) he
+    ∙ (λ i. playing (hn i) (ho i ∷ r .used ∷ []) (cond (eqb (hn i) 8) s (encode (r .port))) l)
+    ∙ ap (run-left s) (hr ∙ ap (λ (q : Port). play q script log) hp)
+    ∙ sym (ap (play-on s script log) (decoded f s hf ht))
+
+pub play-on-nothing : (f : Bool) (s script log : List ℕ) → f ≡ fits port-max s → f ≡ false → playing 8 (0 ∷ 0 ∷ []) s log ≡ played s script log
+unfolding played
+play-on-nothing f s script log hf ht = sym (ap (play-on s script log) (undecoded f s hf ht))

@@ -3,7 +3,7 @@
 -- Assumes nothing.
 use Prim.Native.Nat.{ℕ, _+_, _*_}
 use mathlib.Core.Bool.{cond, _&&_}
-use mathlib.Core.List.{List}
+use mathlib.Core.List.{List, [], _∷_}
 use lib.Dec.{eqb, leb}
 use lib.ListN.{length}
 use Rattle.frame.specs.Frame.{one-if}
@@ -15,6 +15,7 @@ use Rattle.sci.specs.declared.Pins.{Pins}
 use Rattle.sci.specs.Calls.{Call, reads, writes, lets-pass, sets-line, sets-pins, sets-power, passes-inside, Answer, done, refused, direct}
 use Rattle.sci.specs.Pins.{pins, interrupt, level-number}
 use Rattle.sci.specs.Power.{fresh}
+use Rattle.player.specs.Play.{Run, play}
 use Rattle.capi.specs.State.{Decoded, a-port, nothing, decode, encode, port-max}
 
 -- an answer, and the array after it
@@ -86,3 +87,26 @@ interrupt-answer s = interrupt-on (decode s)
 -- whatever the array held, if it is as long as a state
 unfoldable pub fresh-state : List ℕ → Lent
 fresh-state s = cond (eqb (length s) (length port-max)) (lent 0 (encode fresh)) (lent (refusal 8) s)
+
+-- ---- sci3_play
+-- document 01's number (0: accepted); told: the offset of the refused command's first byte, and how many bytes of the log are written; the array and the
+-- log after the run
+pub record Playing : Type 0 where
+  pub number : ℕ
+  pub told : List ℕ
+  pub state : List ℕ
+  pub log : List ℕ
+
+abbrev pub playing : ℕ → List ℕ → List ℕ → List ℕ → Playing
+playing n t s l = record { number = n; told = t; state = s; log = l }
+
+-- by 8 the array stays as it was
+abbrev pub run-left : List ℕ → Run → Playing
+run-left s r = playing (r .number) (r .offset ∷ r .used ∷ []) (cond (eqb (r .number) 8) s (encode (r .port))) (r .log)
+
+abbrev pub play-on : List ℕ → List ℕ → List ℕ → Decoded → Playing
+play-on s script log nothing = playing 8 (0 ∷ 0 ∷ []) s log
+play-on s script log (a-port p) = run-left s (play p script log)
+
+unfoldable pub played : List ℕ → List ℕ → List ℕ → Playing
+played s script log = play-on s script log (decode s)

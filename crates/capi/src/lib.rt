@@ -1,13 +1,14 @@
 // SCI3 for programs in other languages: a port's state in a lent array of numbers, and the direct calls on it.
 ghost use mathlib.Core.Path.{_≡_};
-ghost use mathlib.Core.Bool.{true};
+ghost use mathlib.Core.Bool.{true, cond};
 ghost use Prim.Native.Nat.{_≤_};
 ghost use mathlib.Core.List.{_++_};
+ghost use lib.Dec.{eqb};
 ghost use lib.ListN.{length};
 ghost use Rattle.frame.specs.Frame.{one-if};
 ghost use Rattle.sci.specs.Sender.{tx-next};
 ghost use Rattle.sci.specs.Calls.{answer, direct};
-ghost use Rattle.capi.specs.Exports.{lent, command, answered, call, drive-number, clock-number, pins-number, pins-answer, interrupt-answer, fresh-state};
+ghost use Rattle.capi.specs.Exports.{lent, command, answered, call, drive-number, clock-number, pins-number, pins-answer, interrupt-answer, fresh-state, playing, played};
 ghost use Rattle.capi.specs.State.{due-tag, due-half, holding-tag, held-byte, holding-list, format-list, no-format, no-character, no-rx, tx-tag, loaded-tag, loaded-character, tx-character, tx-cell, tx-loaded, tx-list, position-number, rx-tag, rx-word, rx-list, register-list, power-list, line-list, encode, due-max, holding-max, format-max, character-max, tx-max, word-max, rx-max, port-max, fits, due-in, holding-in, format-in, character-in, tail-of, tx-of, tx-in, position-of, word-in, rx-in, port-of, port-in};
 use frame::Format;
 use sci::Called;
@@ -810,4 +811,38 @@ pub extern "C" fn sci3_fresh(state: &mut [u64]) -> u64
         return 0;
     }
     264
+}
+
+// The array after a run; after refusal 8 it is as it was.
+fn put_state(s: &mut [u64], number: u8, port: Port)
+    requires { ⌜ length (now s) ≡ length port-max ⌝ }
+    ensures { λ _. ⌜ now (s .exit) ≡ cond (eqb number 8) (now (s .entry)) (encode port) ⌝ }
+{
+    if number != 8 {
+        store(s, words(port));
+    }
+}
+
+// Plays a script on the port in the array. The answer is document 01's number, 0 where the script was accepted; told are the offset of the refused
+// command's first byte, else 0, and how many bytes of the log are written.
+#[no_mangle]
+pub extern "C" fn sci3_play(
+    state: &mut [u64],
+    script: &[u8],
+    log: &mut [u8],
+    told: &mut [u64; 2],
+) -> u64
+    ensures { λ r. ⌜ playing r (now (told .exit)) (now (state .exit)) (now (log .exit)) ≡ played (now (state .entry)) (now (script .entry)) (now (log .entry)) ⌝ }
+{
+    if is_state(state) {
+        let run = player::play(port_in(state), script, log);
+        let end = run.end;
+        let number = end.number();
+        let offset = end.offset();
+        put_state(state, number, run.port);
+        *told = [offset as u64, run.used as u64];
+        return number as u64;
+    }
+    *told = [0, 0];
+    8
 }

@@ -1,0 +1,26 @@
+use Prim.Native.Nat.{_-_, _≤_}
+use lib.ListN.{length}
+use borrow.Author.Needs.{needs}
+use Rattle.replay.proofs.with_bytes.Statement.{statement}
+use Rattle.replay.proofs.with_bytes.Tie as tie
+
+abbrev Inv-loop : tie.InvT-loop
+Inv-loop sum bytes total₀ i₀ total i = i ≤ length bytes
+
+abbrev μ-loop : tie.MeasureT-loop
+μ-loop sum bytes total₀ i₀ total i = length bytes - i
+
+pub with-bytes-spec : {M : Type 1} → statement M
+with-bytes-spec =
+    tie.close
+    (tie.spec
+    Inv-loop
+    μ-loop
+    (λ c. search needs)
+    (λ c. search needs)
+    (λ c κs. search needs)
+    (λ c κs. search needs)
+    (λ c. search needs)
+    (λ c. search needs)
+    (λ c. search needs)
+    (λ c. search needs))

@@ -1,0 +1,176 @@
+// Plays the scripts of a fixed list and prints what each leaves: the file `stdout` beside src/ has the answers of the Rust reference, so they are compared
+// with no Rust at hand. A case of standard input is the log's length and the script's, two bytes each, low byte first, and the script. Printed are the
+// lines of its run as the program prints them, and a sum over the whole log, which was filled with AA, and the 53 numbers of the last state.
+// oracle/README.md has the command that made both files.
+ghost use Prim.Native.Nat.{_≤_};
+use capi::sci3_fresh;
+use capi::sci3_play;
+
+const LOG: usize = 40960;
+
+fn wide(byte: u8) -> usize
+    ensures { λ r. ⌜ r ≤ 255 ⌝ }
+{
+    byte as usize
+}
+
+// FNV-1a, 32 bits: the sum with one byte more.
+fn with_byte(sum: u64, byte: u64) -> u64 {
+    (sum ^ byte) % 4294967296 * 16777619 % 4294967296
+}
+
+fn with_bytes(sum: u64, bytes: &[u8]) -> u64 {
+    let mut total = sum;
+    let mut i: usize = 0;
+    while i < bytes.len() {
+        total = with_byte(total, wide(bytes[i]) as u64);
+        i += 1;
+    }
+    total
+}
+
+// A number of 64 bits, low byte first.
+fn with_number(sum: u64, number: u64) -> u64 {
+    let mut total = sum;
+    let mut rest = number;
+    let mut left: u32 = 8;
+    while 0 < left {
+        total = with_byte(total, rest % 256);
+        rest = rest / 256;
+        left -= 1;
+    }
+    total
+}
+
+fn with_numbers(sum: u64, numbers: &[u64]) -> u64 {
+    let mut total = sum;
+    let mut i: usize = 0;
+    while i < numbers.len() {
+        total = with_number(total, numbers[i]);
+        i += 1;
+    }
+    total
+}
+
+fn hex_digit(n: u64) -> u8 {
+    let low = (n % 16) as u8;
+    if low < 10 { 48 + low } else { 55 + low }
+}
+
+fn print_sum(sum: u64) {
+    let mut text = [61u8, 32, 48, 48, 48, 48, 48, 48, 48, 48, 10];
+    text[9] = hex_digit(sum);
+    text[8] = hex_digit(sum / 16);
+    text[7] = hex_digit(sum / 256);
+    text[6] = hex_digit(sum / 4096);
+    text[5] = hex_digit(sum / 65536);
+    text[4] = hex_digit(sum / 1048576);
+    text[3] = hex_digit(sum / 16777216);
+    text[2] = hex_digit(sum / 268435456);
+    io::write_all(1, &text);
+}
+
+// The record at an offset of the log.
+fn print_record(log: &[u8], at: usize) {
+    if log.len() < 5 {
+        return;
+    }
+    if at <= log.len() - 5 {
+        let text = report::record_line(log[at], log[at + 1], log[at + 2], log[at + 3], log[at + 4]);
+        io::write_all(1, &text);
+    }
+}
+
+fn print_records(log: &[u8], used: usize) {
+    let mut at: usize = 0;
+    while at < used {
+        print_record(log, at);
+        if used - at < 5 {
+            return;
+        }
+        at = at + 5;
+    }
+}
+
+fn print_last(number: u64, offset: u64, halves: u64) {
+    let mut text = [0u8; 64];
+    if number == 0 {
+        let end = report::end_line(&mut text, (halves % 4294967296) as u32);
+        io::write_all(1, &text[..end]);
+        return;
+    }
+    let end = report::refused_line(&mut text, (number % 256) as u8, offset as usize);
+    io::write_all(1, &text[..end]);
+}
+
+// Plays a script on a fresh port and prints what it leaves.
+fn replay_on(script: &[u8], log: &mut [u8]) {
+    let mut state = [0u64; 53];
+    let mut told = [0u64; 2];
+    sci3_fresh(&mut state);
+    let number = sci3_play(&mut state, script, log, &mut told);
+    print_records(log, told[1] as usize);
+    print_last(number, told[0], state[14]);
+    let sum = with_bytes(2166136261, log);
+    print_sum(with_numbers(sum, &state));
+}
+
+// The same with a log of so many bytes.
+fn replay(script: &[u8], room: usize) {
+    if room > LOG {
+        return;
+    }
+    let mut log = [0xAAu8; 40960];
+    replay_on(script, &mut log[0..room]);
+}
+
+fn two_bytes(s: &[u8], at: usize) -> usize {
+    if s.len() < 2 {
+        return 0;
+    }
+    if at <= s.len() - 2 {
+        return wide(s[at]) + 256 * wide(s[at + 1]);
+    }
+    0
+}
+
+// Replays the case at an offset, and answers the offset of the next, or the list's end.
+fn replay_at(s: &[u8], at: usize) -> usize {
+    if s.len() < 4 {
+        return s.len();
+    }
+    if s.len() - 4 < at {
+        return s.len();
+    }
+    let room = two_bytes(s, at);
+    let length = two_bytes(s, at + 2);
+    let start = at + 4;
+    if s.len() - start < length {
+        return s.len();
+    }
+    let end = start + length;
+    replay(&s[start..end], room);
+    end
+}
+
+// Replays the whole list, at most 65,535 cases, and answers how many there were.
+fn replay_all(s: &[u8]) -> u32 {
+    let mut at: usize = 0;
+    let mut left: u32 = 65535;
+    while 0 < left {
+        if s.len() <= at {
+            return 65535 - left;
+        }
+        at = replay_at(s, at);
+        left -= 1;
+    }
+    65535
+}
+
+fn main() {
+    let mut list = [0u8; 262144];
+    let n = io::read_full(0, &mut list);
+    let scripts = replay_all(&list[..n]);
+    io::print_decimal(1, scripts as u64);
+    io::write_all(1, b" scripts\n");
+}
