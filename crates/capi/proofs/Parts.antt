@@ -9,14 +9,14 @@ use lib.ListN.{length, drop, drop-of-length-le}
 use lib.Seq.{drop-cons}
 use Rattle.frame.specs.Frame.{one-if}
 use Rattle.sci.specs.declared.Port.{Port}
-use Rattle.sci.specs.declared.Due.{Due}
-use Rattle.sci.specs.declared.Holding.{Holding}
-use Rattle.sci.specs.declared.Character.{Character}
-use Rattle.sci.specs.declared.Tx.{Tx}
-use Rattle.sci.specs.declared.Tx.the-variants.{Data}
-use Rattle.sci.specs.declared.Rx.{Rx}
-use Rattle.sci.specs.declared.Receiver.{Receiver}
-use Rattle.sci.specs.Sender.{tx-next}
+use Rattle.words.specs.declared.Due.{Due}
+use Rattle.words.specs.declared.Holding.{Holding}
+use Rattle.words.specs.declared.Character.{Character}
+use Rattle.words.specs.declared.Tx.{Tx}
+use Rattle.words.specs.declared.Tx.the-variants.{Data}
+use Rattle.words.specs.declared.Rx.{Rx}
+use Rattle.words.specs.declared.Receiver.{Receiver}
+use Rattle.words.specs.Sender.{tx-next}
 use Rattle.capi.specs.State.{at, due-tag, due-half, holding-list, format-list, tx-tag, tx-character, tx-cell, tx-loaded, tx-list, position-number, rx-tag, rx-word, rx-list, register-list, power-list, line-list, encode, tx-of, port-of}
 
 -- ---- what a sender in a known variant holds

@@ -12,18 +12,18 @@ use borrow.Author.Tests.{le-leb, lt-leb}
 use Rattle.frame.specs.declared.Format.{Format}
 use Rattle.frame.specs.Frame.{one-if}
 use Rattle.sci.specs.declared.Port.{Port}
-use Rattle.sci.specs.declared.Due.{Due}
-use Rattle.sci.specs.declared.Due.the-variants.{Never, At}
-use Rattle.sci.specs.declared.Holding.{Holding}
-use Rattle.sci.specs.declared.Holding.the-variants.{Empty, Byte}
-use Rattle.sci.specs.declared.Character.{Character}
-use Rattle.sci.specs.declared.Loaded.the-variants.{Nothing, Next}
-use Rattle.sci.specs.declared.Tx.{Tx}
-use Rattle.sci.specs.declared.Tx.the-variants.{Off, Blocked, Mark, Start, Data, Tail}
-use Rattle.sci.specs.declared.Rx.{Rx}
-use Rattle.sci.specs.declared.Receiver.{Receiver}
-use Rattle.sci.specs.declared.Receiver.the-variants.{Idle, Busy}
-use Rattle.sci.specs.Sender.{tx-next}
+use Rattle.words.specs.declared.Due.{Due}
+use Rattle.words.specs.declared.Due.the-variants.{Never, At}
+use Rattle.words.specs.declared.Holding.{Holding}
+use Rattle.words.specs.declared.Holding.the-variants.{Empty, Byte}
+use Rattle.words.specs.declared.Character.{Character}
+use Rattle.words.specs.declared.Loaded.the-variants.{Nothing, Next}
+use Rattle.words.specs.declared.Tx.{Tx}
+use Rattle.words.specs.declared.Tx.the-variants.{Off, Blocked, Mark, Start, Data, Tail}
+use Rattle.words.specs.declared.Rx.{Rx}
+use Rattle.words.specs.declared.Receiver.{Receiver}
+use Rattle.words.specs.declared.Receiver.the-variants.{Idle, Busy}
+use Rattle.words.specs.Sender.{tx-next}
 use Rattle.capi.specs.State.{flag, due-list, holding-list, format-list, character-list, tx-character, tx-cell, tx-loaded, tx-tag, tx-list, position-number, word-list, rx-list, register-list, power-list, line-list, encode, u8-max, u32-max, u64-max, due-max, holding-max, format-max, character-max, tx-max, word-max, rx-max, register-max, power-max, line-max, port-max, fits, due-in, holding-in, format-in, character-in, tail-of, tx-of, tx-in, position-of, word-in, rx-in, port-of, port-in, a-port, nothing, decode}
 use Rattle.frame.proofs.Truth.{and-left, and-right}
 use Rattle.capi.specs.Round.{DueTyped, HoldingTyped, FormatTyped, CharacterTyped, TxTyped, RxTyped, ReceiverTyped, PortTyped, RoundTrip}

@@ -1,11 +1,11 @@
 // Runs document 01's cases as direct calls and prints what the port answers. The file `stdout` beside src/ has the document's own figures.
 use sci::Called;
-use sci::Due;
 use sci::Outcome;
 use sci::Port;
-use sci::Receiver;
-use sci::Rx;
-use sci::Tx;
+use words::Due;
+use words::Receiver;
+use words::Rx;
+use words::Tx;
 
 fn hex_digit(n: u8) -> u8 {
     let low = n % 16;

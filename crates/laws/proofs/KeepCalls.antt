@@ -13,11 +13,12 @@ use Rattle.frame.specs.Frame.{has, differ, one-if, cells}
 use Rattle.frame.proofs.Truth.{and-left, and-right, and-both, or-cases, by-flag}
 use Rattle.frame.proofs.Words.{Shape, shape, format-good}
 use Rattle.sci.specs.declared.Port.{Port}
-use Rattle.sci.specs.declared.Receiver.the-variants.{Idle}
+use Rattle.words.specs.declared.Receiver.the-variants.{Idle}
 use Rattle.sci.specs.Fields.{with-spcr, with-smr, with-brr, with-scr, with-tdr, with-ssr, with-semr, with-ircr, with-seen, with-rx, with-input, with-input-clock}
 use Rattle.sci.specs.Baud.{format-of, external, running, boundary, edge-counted, edge-counts}
 use Rattle.sci.specs.Receiver.{arm-receive}
-use Rattle.sci.specs.Sender.{holds, try-start}
+use Rattle.words.specs.Sender.{holds}
+use Rattle.sci.specs.Sender.{try-start}
 use Rattle.sci.specs.Clocked.{refresh-sync-clock, sync-edge}
 use Rattle.sci.specs.Half.{process-basic, inside, uncounted}
 use Rattle.sci.specs.Registers.{handles, read, sender-off, sender-on, scr-tx, write-scr, write-tdr, cleared, status-with, status-write, stored, connect, load-tail, settled, write}

@@ -5,13 +5,15 @@ use Prim.Native.Nat.{ℕ, zero, suc, _+_, _≤_}
 use native.Mathlib.Omega.{arith}
 use mathlib.Core.Bool.{Bool, true, false, not}
 use Rattle.sci.specs.declared.Port.{Port}
-use Rattle.sci.specs.declared.Due.{Due}
-use Rattle.sci.specs.declared.Due.the-variants.{Never, At}
+use Rattle.words.specs.declared.Due.{Due}
+use Rattle.words.specs.declared.Due.the-variants.{Never, At}
 use Rattle.sci.specs.Baud.{counted, external}
-use Rattle.sci.specs.Receiver.{due-now, arm-receive, advance-rx}
+use Rattle.words.specs.Due.{due-now, due-or}
+use Rattle.sci.specs.Receiver.{arm-receive, advance-rx}
 use Rattle.sci.specs.Sender.{advance-tx}
-use Rattle.sci.specs.Clocked.{sync-needed, with-clock, due-or, refresh-sync-clock, receive-bit, sync-edge}
-use Rattle.sci.specs.Half.{process-basic, rx-due-on, sync, clocked-edge, advance, half-step, halves}
+use Rattle.sci.specs.Clocked.{sync-needed, with-clock, refresh-sync-clock, receive-bit, sync-edge}
+use Rattle.words.specs.Receiver.{rx-due-on}
+use Rattle.sci.specs.Half.{process-basic, sync, clocked-edge, advance, half-step, halves}
 use Rattle.laws.proofs.Branches.{by-cond, both-arms}
 use Rattle.laws.proofs.SenderKeeps.{SenderClosed, free-sender, advance-tx-keeps, tail-keeps, shift-keeps}
 use Rattle.laws.proofs.ReceiverKeeps.{ReceiverClosed, free-receiver, refresh-keeps, arm-keeps, advance-rx-keeps, receive-bit-keeps, basic-keeps, sync-edge-keeps}

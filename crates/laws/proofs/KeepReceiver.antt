@@ -15,16 +15,18 @@ use Rattle.frame.specs.Frame.{has, differ, one-if, format-valid}
 use Rattle.frame.proofs.Truth.{and-left, and-right}
 use Rattle.frame.proofs.Words.{shape, format-good}
 use Rattle.sci.specs.declared.Port.{Port}
-use Rattle.sci.specs.declared.Rx.{Rx}
-use Rattle.sci.specs.declared.Due.the-variants.{At}
-use Rattle.sci.specs.declared.Receiver.{Receiver}
-use Rattle.sci.specs.declared.Receiver.the-variants.{Idle, Busy}
-use Rattle.sci.specs.declared.Sampled.{Sampled}
-use Rattle.sci.specs.declared.Sampled.the-variants.{Dropped, Onward, Whole}
+use Rattle.words.specs.declared.Rx.{Rx}
+use Rattle.words.specs.declared.Due.the-variants.{At}
+use Rattle.words.specs.declared.Receiver.{Receiver}
+use Rattle.words.specs.declared.Receiver.the-variants.{Idle, Busy}
+use Rattle.words.specs.declared.Sampled.{Sampled}
+use Rattle.words.specs.declared.Sampled.the-variants.{Dropped, Onward, Whole}
 use Rattle.sci.specs.Fields.{with-rx, with-ssr}
 use Rattle.sci.specs.Baud.{format-of, next-fall}
-use Rattle.sci.specs.Receiver.{input-level, error-free, due-now, armed, started, stepped, next-position, sample-at, sample, arms, arm-receive, arm-receive-on, complete-receive, after-sample, advance-rx, advance-rx-on}
-use Rattle.sci.specs.Clocked.{last-bit, bit-taken, take-bit, clocked-word, receive-bit, receive-bit-on}
+use Rattle.words.specs.Due.{due-now}
+use Rattle.words.specs.Receiver.{armed, started, stepped, next-position, sample-at, sample, last-bit, bit-taken, clocked-word}
+use Rattle.sci.specs.Receiver.{input-level, error-free, arms, arm-receive, arm-receive-on, complete-receive, after-sample, advance-rx, advance-rx-on}
+use Rattle.sci.specs.Clocked.{take-bit, receive-bit, receive-bit-on}
 use Rattle.laws.proofs.Branches.{by-cond, not-true, or-right}
 use Rattle.laws.proofs.Masks.{or-clear, and-clear}
 use Rattle.laws.proofs.SenderKeeps.{SenderClosed}

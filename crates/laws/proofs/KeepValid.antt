@@ -13,20 +13,21 @@ use Rattle.frame.specs.declared.Format.{Format}
 use Rattle.frame.specs.Frame.{has, format-valid}
 use Rattle.frame.proofs.Truth.{and-left, and-right, and-both, or-cases}
 use Rattle.sci.specs.declared.Port.{Port}
-use Rattle.sci.specs.declared.Due.{Due}
-use Rattle.sci.specs.declared.Due.the-variants.{Never, At}
-use Rattle.sci.specs.declared.Loaded.{Loaded}
-use Rattle.sci.specs.declared.Loaded.the-variants.{Nothing, Next}
-use Rattle.sci.specs.declared.Tx.{Tx}
-use Rattle.sci.specs.declared.Tx.the-variants.{Off, Blocked, Mark, Start, Data, Tail}
-use Rattle.sci.specs.declared.Receiver.{Receiver}
-use Rattle.sci.specs.declared.Receiver.the-variants.{Idle, Busy}
+use Rattle.words.specs.declared.Due.{Due}
+use Rattle.words.specs.declared.Due.the-variants.{Never, At}
+use Rattle.words.specs.declared.Loaded.{Loaded}
+use Rattle.words.specs.declared.Loaded.the-variants.{Nothing, Next}
+use Rattle.words.specs.declared.Tx.{Tx}
+use Rattle.words.specs.declared.Tx.the-variants.{Off, Blocked, Mark, Start, Data, Tail}
+use Rattle.words.specs.declared.Receiver.{Receiver}
+use Rattle.words.specs.declared.Receiver.the-variants.{Idle, Busy}
 use Rattle.sci.specs.Baud.{internal, edge-counts}
 use Rattle.sci.specs.Half.{halves, uncounted, inside}
 use Rattle.sci.specs.Registers.{handles, read, write}
 use Rattle.sci.specs.Power.{fresh}
 use Rattle.sci.specs.Pins.{receive-input, pins-change, input-pins}
-use Rattle.sci.specs.Valid.{limit, registers-valid, due-at, due-either, due-by, character-valid, loaded-valid, cell-valid, tx-valid, position-valid, word-in-place, rx-valid, valid}
+use Rattle.words.specs.Valid.{due-at, due-either, due-by, character-valid, loaded-valid, cell-valid, tx-valid, position-valid, word-in-place, rx-valid}
+use Rattle.sci.specs.Valid.{limit, registers-valid, valid}
 use Rattle.sci.specs.Calls.{Call, reads, writes, lets-pass, sets-line, sets-pins, sets-power, passes-inside, Answer, after, bit, called}
 use Rattle.laws.proofs.Branches.{by-cond, both-arms, or-true, not-true, is-not, without, without-test}
 use Rattle.laws.proofs.KeepSender.{Ahead, DueBy, DueMaybe, GoodLoaded, cell-end, TxFits}

@@ -10,8 +10,8 @@ use lib.Dec.{eqb, leb}
 use Rattle.frame.specs.Frame.{has}
 use Rattle.frame.proofs.Truth.{and-right}
 use Rattle.sci.specs.declared.Port.{Port}
-use Rattle.sci.specs.declared.Loaded.{Loaded}
-use Rattle.sci.specs.declared.Loaded.the-variants.{Nothing, Next}
+use Rattle.words.specs.declared.Loaded.{Loaded}
+use Rattle.words.specs.declared.Loaded.the-variants.{Nothing, Next}
 use Rattle.sci.specs.Power.{fresh}
 use Rattle.sci.specs.Baud.{external, running, internal, edge-counts}
 use Rattle.sci.specs.Receiver.{error-free, complete-receive}

@@ -7,7 +7,7 @@ use lib.Dec.{eqb}
 use lib.Bits.{bitAnd, bitOr, or-zero-r}
 use Rattle.frame.specs.Frame.{has}
 use Rattle.sci.specs.declared.Port.{Port}
-use Rattle.sci.specs.declared.Rx.{Rx}
+use Rattle.words.specs.declared.Rx.{Rx}
 use Rattle.sci.specs.Receiver.{complete-receive}
 use Rattle.laws.specs.ReceiveErrors.{row, errors, flags, Agrees, Holds, Receives-as-the-manual}
 use Rattle.laws.proofs.Branches.{by-cond, is-not, without}

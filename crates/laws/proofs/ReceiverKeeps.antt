@@ -6,19 +6,21 @@ use mathlib.Core.Bool.{Bool, true, not, _&&_}
 use lib.Dec.{eqb}
 use Rattle.frame.specs.Frame.{has}
 use Rattle.sci.specs.declared.Port.{Port}
-use Rattle.sci.specs.declared.Rx.{Rx}
-use Rattle.sci.specs.declared.Due.{Due}
-use Rattle.sci.specs.declared.Due.the-variants.{Never}
-use Rattle.sci.specs.declared.Receiver.{Receiver}
-use Rattle.sci.specs.declared.Receiver.the-variants.{Idle, Busy}
-use Rattle.sci.specs.declared.Sampled.{Sampled}
-use Rattle.sci.specs.declared.Sampled.the-variants.{Dropped, Onward, Whole}
+use Rattle.words.specs.declared.Rx.{Rx}
+use Rattle.words.specs.declared.Due.{Due}
+use Rattle.words.specs.declared.Due.the-variants.{Never}
+use Rattle.words.specs.declared.Receiver.{Receiver}
+use Rattle.words.specs.declared.Receiver.the-variants.{Idle, Busy}
+use Rattle.words.specs.declared.Sampled.{Sampled}
+use Rattle.words.specs.declared.Sampled.the-variants.{Dropped, Onward, Whole}
 use Rattle.sci.specs.Fields.{with-rx, with-ssr, with-rdr, with-received}
 use Rattle.sci.specs.Baud.{format-of, external, counted}
-use Rattle.sci.specs.Receiver.{input-level, error-free, due-now, sample, arms, arm-receive, arm-receive-on, complete-receive, after-sample, advance-rx, advance-rx-on}
+use Rattle.words.specs.Due.{due-now, due-or}
+use Rattle.words.specs.Receiver.{sample, last-bit, bit-taken, clocked-word, rx-due-on}
+use Rattle.sci.specs.Receiver.{input-level, error-free, arms, arm-receive, arm-receive-on, complete-receive, after-sample, advance-rx, advance-rx-on}
 use Rattle.sci.specs.Sender.{advance-tx}
-use Rattle.sci.specs.Clocked.{sync-needed, with-clock, due-or, refresh-sync-clock, last-bit, bit-taken, take-bit, clocked-word, receive-bit, receive-bit-on, sync-edge}
-use Rattle.sci.specs.Half.{process-basic, rx-due-on, sync, clocked-edge, advance, half-step}
+use Rattle.sci.specs.Clocked.{sync-needed, with-clock, refresh-sync-clock, take-bit, receive-bit, receive-bit-on, sync-edge}
+use Rattle.sci.specs.Half.{process-basic, sync, clocked-edge, advance, half-step}
 use Rattle.laws.proofs.Branches.{both-arms}
 use Rattle.laws.proofs.SenderKeeps.{SenderClosed, advance-tx-keeps, tail-keeps, shift-keeps}
 

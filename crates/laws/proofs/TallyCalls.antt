@@ -13,7 +13,8 @@ use Rattle.sci.specs.declared.Port.{Port}
 use Rattle.sci.specs.Fields.{with-scr, with-input}
 use Rattle.sci.specs.Baud.{format-of, external, running, internal, edge-counts}
 use Rattle.sci.specs.Receiver.{arm-receive}
-use Rattle.sci.specs.Sender.{holds, try-start}
+use Rattle.words.specs.Sender.{holds}
+use Rattle.sci.specs.Sender.{try-start}
 use Rattle.sci.specs.Half.{half-step, halves, uncounted, inside}
 use Rattle.sci.specs.Registers.{handles, read, scr-tx, write-scr, write-tdr, cleared, status-with, status-write, stored, connect, load-tail, settled, write}
 use Rattle.sci.specs.Power.{fresh, reset-registers, reset, with-power, set-power}

@@ -8,17 +8,19 @@ use lib.Bits.{bitAnd}
 use borrow.Author.Tests.{ne-eqb}
 use Rattle.frame.specs.Frame.{has}
 use Rattle.sci.specs.declared.Port.{Port}
-use Rattle.sci.specs.declared.Due.{Due}
-use Rattle.sci.specs.declared.Due.the-variants.{Never, At}
-use Rattle.sci.specs.declared.Tx.{Tx}
-use Rattle.sci.specs.declared.Tx.the-variants.{Off, Blocked, Mark, Start, Data, Tail}
-use Rattle.sci.specs.declared.Receiver.{Receiver}
-use Rattle.sci.specs.declared.Receiver.the-variants.{Idle, Busy}
+use Rattle.words.specs.declared.Due.{Due}
+use Rattle.words.specs.declared.Due.the-variants.{Never, At}
+use Rattle.words.specs.declared.Tx.{Tx}
+use Rattle.words.specs.declared.Tx.the-variants.{Off, Blocked, Mark, Start, Data, Tail}
+use Rattle.words.specs.declared.Receiver.{Receiver}
+use Rattle.words.specs.declared.Receiver.the-variants.{Idle, Busy}
 use Rattle.sci.specs.Baud.{format-of, external, counted, edge-counted}
-use Rattle.sci.specs.Receiver.{input-level, error-free, due-now, arm-receive}
-use Rattle.sci.specs.Sender.{level}
-use Rattle.sci.specs.Clocked.{tx-clocked, rx-clocked, sync-needed, with-clock, due-or, refresh-sync-clock, sync-edge}
-use Rattle.sci.specs.Half.{process-basic, rx-due-on, sync, clocked-edge, advance, half-step}
+use Rattle.words.specs.Due.{due-now, due-or}
+use Rattle.sci.specs.Receiver.{input-level, error-free, arm-receive}
+use Rattle.words.specs.Sender.{level, tx-clocked}
+use Rattle.words.specs.Receiver.{rx-clocked, rx-due-on}
+use Rattle.sci.specs.Clocked.{sync-needed, with-clock, refresh-sync-clock, sync-edge}
+use Rattle.sci.specs.Half.{process-basic, sync, clocked-edge, advance, half-step}
 use Rattle.laws.specs.Laws.{tally, finishes-on, finishes, receives, rises}
 use Rattle.laws.proofs.Branches.{by-cond, both-arms}
 use Rattle.laws.proofs.SenderKeeps.{free-sender}

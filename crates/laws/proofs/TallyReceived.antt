@@ -10,18 +10,20 @@ use Rattle.frame.specs.declared.Format.{Format}
 use Rattle.frame.specs.Frame.{has, differ}
 use Rattle.frame.proofs.Truth.{and-left, and-right, beq-true, every-row, by-table}
 use Rattle.sci.specs.declared.Port.{Port}
-use Rattle.sci.specs.declared.Due.{Due}
-use Rattle.sci.specs.declared.Due.the-variants.{Never, At}
-use Rattle.sci.specs.declared.Rx.{Rx}
-use Rattle.sci.specs.declared.Receiver.{Receiver}
-use Rattle.sci.specs.declared.Receiver.the-variants.{Idle, Busy}
-use Rattle.sci.specs.declared.Sampled.{Sampled}
-use Rattle.sci.specs.declared.Sampled.the-variants.{Dropped, Onward, Whole}
+use Rattle.words.specs.declared.Due.{Due}
+use Rattle.words.specs.declared.Due.the-variants.{Never, At}
+use Rattle.words.specs.declared.Rx.{Rx}
+use Rattle.words.specs.declared.Receiver.{Receiver}
+use Rattle.words.specs.declared.Receiver.the-variants.{Idle, Busy}
+use Rattle.words.specs.declared.Sampled.{Sampled}
+use Rattle.words.specs.declared.Sampled.the-variants.{Dropped, Onward, Whole}
 use Rattle.sci.specs.Fields.{with-rx}
 use Rattle.sci.specs.Baud.{format-of}
-use Rattle.sci.specs.Receiver.{input-level, error-free, due-now, sample-at, sample, started, stepped, bit-at, arms, arm-receive, arm-receive-on, complete-receive, after-sample, advance-rx, advance-rx-on}
+use Rattle.words.specs.Due.{due-now}
+use Rattle.words.specs.Receiver.{sample-at, sample, started, stepped, bit-at, last-bit, bit-taken, clocked-word}
+use Rattle.sci.specs.Receiver.{input-level, error-free, arms, arm-receive, arm-receive-on, complete-receive, after-sample, advance-rx, advance-rx-on}
 use Rattle.sci.specs.Sender.{advance-tx}
-use Rattle.sci.specs.Clocked.{last-bit, bit-taken, take-bit, clocked-word, receive-bit, receive-bit-on, sync-edge}
+use Rattle.sci.specs.Clocked.{take-bit, receive-bit, receive-bit-on, sync-edge}
 use Rattle.sci.specs.Half.{process-basic}
 use Rattle.laws.specs.Laws.{tally, clean, completes-on, receives}
 use Rattle.laws.proofs.Branches.{by-cond, both-arms, and-no}

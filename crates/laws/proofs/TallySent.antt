@@ -6,19 +6,21 @@ use mathlib.Core.Bool.{Bool, true, false, not, _&&_, _||_}
 use lib.Dec.{eqb}
 use Rattle.frame.specs.Frame.{has, stop}
 use Rattle.sci.specs.declared.Port.{Port}
-use Rattle.sci.specs.declared.Character.{Character}
-use Rattle.sci.specs.declared.Due.the-variants.{Never, At}
-use Rattle.sci.specs.declared.Holding.{Holding}
-use Rattle.sci.specs.declared.Holding.the-variants.{Empty, Byte}
-use Rattle.sci.specs.declared.Loaded.{Loaded}
-use Rattle.sci.specs.declared.Loaded.the-variants.{Nothing, Next}
-use Rattle.sci.specs.declared.Tx.{Tx}
-use Rattle.sci.specs.declared.Tx.the-variants.{Off, Blocked, Mark, Start, Data, Tail}
+use Rattle.words.specs.declared.Character.{Character}
+use Rattle.words.specs.declared.Due.the-variants.{Never, At}
+use Rattle.words.specs.declared.Holding.{Holding}
+use Rattle.words.specs.declared.Holding.the-variants.{Empty, Byte}
+use Rattle.words.specs.declared.Loaded.{Loaded}
+use Rattle.words.specs.declared.Loaded.the-variants.{Nothing, Next}
+use Rattle.words.specs.declared.Tx.{Tx}
+use Rattle.words.specs.declared.Tx.the-variants.{Off, Blocked, Mark, Start, Data, Tail}
 use Rattle.sci.specs.Fields.{with-tx}
 use Rattle.sci.specs.Baud.{format-of, boundary}
-use Rattle.sci.specs.Receiver.{error-free, due-now, advance-rx}
-use Rattle.sci.specs.Sender.{holds, loaded, preloaded, preloaded-on, begin, start-at, start-loaded, try-start, try-start-on, one-sent, finish-tail, next-cell, advance-tx, advance-tx-on}
-use Rattle.sci.specs.Clocked.{absent, receive-bit, tail-ends, tail-ends-on, sync-edge}
+use Rattle.words.specs.Due.{due-now, absent}
+use Rattle.sci.specs.Receiver.{error-free, advance-rx}
+use Rattle.words.specs.Sender.{holds}
+use Rattle.sci.specs.Sender.{loaded, preloaded, preloaded-on, begin, start-at, start-loaded, try-start, try-start-on, one-sent, finish-tail, next-cell, advance-tx, advance-tx-on}
+use Rattle.sci.specs.Clocked.{receive-bit, tail-ends, tail-ends-on, sync-edge}
 use Rattle.sci.specs.Half.{process-basic}
 use Rattle.laws.specs.Laws.{wrap, tally, finishes-on}
 use Rattle.laws.proofs.Branches.{by-cond, both-arms, and-no, and-yes}

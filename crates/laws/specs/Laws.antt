@@ -8,20 +8,21 @@ use mathlib.Core.List.{List, [], _∷_}
 use lib.Dec.{eqb}
 use Rattle.frame.specs.Frame.{has, one-if}
 use Rattle.sci.specs.declared.Port.{Port}
-use Rattle.sci.specs.declared.Due.the-variants.{Never, At}
-use Rattle.sci.specs.declared.Loaded.{Loaded}
-use Rattle.sci.specs.declared.Tx.{Tx}
-use Rattle.sci.specs.declared.Tx.the-variants.{Off, Blocked, Mark, Start, Data, Tail}
-use Rattle.sci.specs.declared.Rx.{Rx}
-use Rattle.sci.specs.declared.Receiver.{Receiver}
-use Rattle.sci.specs.declared.Receiver.the-variants.{Idle, Busy}
-use Rattle.sci.specs.declared.Sampled.{Sampled}
-use Rattle.sci.specs.declared.Sampled.the-variants.{Dropped, Onward, Whole}
+use Rattle.words.specs.declared.Due.the-variants.{Never, At}
+use Rattle.words.specs.declared.Loaded.{Loaded}
+use Rattle.words.specs.declared.Tx.{Tx}
+use Rattle.words.specs.declared.Tx.the-variants.{Off, Blocked, Mark, Start, Data, Tail}
+use Rattle.words.specs.declared.Rx.{Rx}
+use Rattle.words.specs.declared.Receiver.{Receiver}
+use Rattle.words.specs.declared.Receiver.the-variants.{Idle, Busy}
+use Rattle.words.specs.declared.Sampled.{Sampled}
+use Rattle.words.specs.declared.Sampled.the-variants.{Dropped, Onward, Whole}
 use Rattle.sci.specs.Fields.{with-input-clock}
 use Rattle.sci.specs.Baud.{format-of, internal, edge-counts}
-use Rattle.sci.specs.Receiver.{input-level, error-free, due-now, sample, complete-receive}
+use Rattle.words.specs.Due.{due-now}
+use Rattle.words.specs.Receiver.{sample, last-bit}
+use Rattle.sci.specs.Receiver.{input-level, error-free, complete-receive}
 use Rattle.sci.specs.Sender.{finish-tail}
-use Rattle.sci.specs.Clocked.{last-bit}
 use Rattle.sci.specs.Half.{half-step}
 use Rattle.sci.specs.Power.{fresh}
 use Rattle.sci.specs.Pins.{receive-input, external-edge, pins-change}

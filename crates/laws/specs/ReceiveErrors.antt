@@ -7,7 +7,7 @@ use mathlib.Core.List.{List, [], _∷_}
 use lib.Bits.{bitAnd, bitOr}
 use Rattle.frame.specs.Frame.{has}
 use Rattle.sci.specs.declared.Port.{Port}
-use Rattle.sci.specs.declared.Rx.{Rx}
+use Rattle.words.specs.declared.Rx.{Rx}
 use Rattle.sci.specs.Receiver.{complete-receive}
 
 -- a row: RDRF before; overrun, framing and parity error after; and whether RDR takes the word, which is lost otherwise

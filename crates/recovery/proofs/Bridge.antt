@@ -8,11 +8,10 @@ use mathlib.Core.Bool.{Bool, true, false, cond, _&&_, true≢false}
 use mathlib.Core.List.{List, [], _∷_, _++_}
 use lib.Dec.{eqb, leb}
 use borrow.Author.Tests.{leb-true, leb-false}
-use Rattle.sci.specs.Calls.{run as port-run}
+use Rattle.sci.specs.Calls.{run as port-run, Answer, Call, after, bit, called, direct, done, lets-pass, passes-inside, reads, refuse, sets-line, sets-pins, sets-power, writes}
 use Rattle.sci.specs.declared.Port.{Port}
 use Rattle.frame.specs.Frame.{differ, has}
 use Rattle.sci.specs.Baud.{edge-counts, internal}
-use Rattle.sci.specs.Calls.{Answer, Call, after, bit, called, direct, done, lets-pass, passes-inside, reads, refuse, sets-line, sets-pins, sets-power, writes}
 use Rattle.sci.specs.Half.{half-step, halves, uncounted}
 use Rattle.sci.specs.Pins.{pins-change}
 use Rattle.sci.specs.Receiver.{input-level}

@@ -7,10 +7,12 @@ use Rattle.sci.specs.Clocked.{bit-out, receive-bit, refresh-sync-clock, shift-o
 use Rattle.sci.specs.Half.{advance, clocked-edge, half-step, halves, process-basic, sync}
 use Rattle.sci.specs.Pins.{external-edge, input-pins, receive-input}
 use Rattle.sci.specs.Power.{fresh, reset, reset-registers, set-power}
-use Rattle.sci.specs.Receiver.{advance-rx, arm-receive, complete-receive, sample-at}
+use Rattle.words.specs.Receiver.{sample-at}
+use Rattle.sci.specs.Receiver.{advance-rx, arm-receive, complete-receive}
 use Rattle.sci.specs.Registers.{connect, load-tail, peek, read, settled, status-with, status-write, stored, write, write-scr, write-tdr}
 use Rattle.sci.specs.Sender.{advance-tx, begin, loaded, next-cell, preloaded, start-at, try-start}
-use Rattle.sci.specs.Valid.{character-valid, registers-valid, valid, word-in-place}
+use Rattle.words.specs.Valid.{character-valid, word-in-place}
+use Rattle.sci.specs.Valid.{registers-valid, valid}
 
 unfoldable pub computes : Call → Port → Answer
 unfolding bits number odd-ones format parity-cell frame word format-valid word-valid sample-at arm-receive complete-receive advance-rx loaded preloaded begin start-at try-start next-cell advance-tx refresh-sync-clock take-bit receive-bit tail-ends bit-out shift-out sync-edge process-basic sync clocked-edge advance half-step halves peek read write-scr write-tdr status-with status-write stored connect load-tail settled write fresh reset-registers reset set-power receive-input external-edge input-pins registers-valid character-valid word-in-place valid called direct

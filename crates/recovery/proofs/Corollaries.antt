@@ -8,12 +8,11 @@ use mathlib.Core.List.{List, [], _∷_, _++_}
 use lib.Dec.{eqb, ltb, leb}
 use lib.ListN.{getD}
 use borrow.Author.Tests.{le-ltb, le-leb, ltb-true, leb-true, leb-false}
-use Rattle.sci.specs.Calls.{run as port-run}
+use Rattle.sci.specs.Calls.{run as port-run, Answer, Call, after, called, direct, done, lets-pass, passes-inside, reads, refuse, refused, sets-line, sets-pins, sets-power, writes}
 use Rattle.frame.specs.declared.Format.{Format}
 use Rattle.sci.specs.declared.Port.{Port}
 use Rattle.frame.specs.Frame.{has, one-if, stop}
 use Rattle.sci.specs.Baud.{format-of, internal}
-use Rattle.sci.specs.Calls.{Answer, Call, after, called, direct, done, lets-pass, passes-inside, reads, refuse, refused, sets-line, sets-pins, sets-power, writes}
 use Rattle.sci.specs.Half.{half-step, halves, uncounted}
 use Rattle.sci.specs.Valid.{limit, valid}
 use Rattle.laws.proofs.Branches.{by-cond}

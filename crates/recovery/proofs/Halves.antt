@@ -7,19 +7,21 @@ use lib.Dec.{eqb, ltb}
 use lib.Bits.{bitOr}
 use lib.IntN.{ℤ, pos, negsuc}
 use Rattle.frame.specs.declared.Format.{Format}
-use Rattle.sci.specs.declared.Due.the-variants.{Never}
+use Rattle.words.specs.declared.Due.the-variants.{Never}
 use Rattle.sci.specs.declared.Port.{Port}
-use Rattle.sci.specs.declared.Receiver.{Receiver}
-use Rattle.sci.specs.declared.Receiver.the-variants.{Busy, Idle}
-use Rattle.sci.specs.declared.Rx.{Rx}
-use Rattle.sci.specs.declared.Sampled.{Sampled}
-use Rattle.sci.specs.declared.Sampled.the-variants.{Dropped, Onward, Whole}
+use Rattle.words.specs.declared.Receiver.{Receiver}
+use Rattle.words.specs.declared.Receiver.the-variants.{Busy, Idle}
+use Rattle.words.specs.declared.Rx.{Rx}
+use Rattle.words.specs.declared.Sampled.{Sampled}
+use Rattle.words.specs.declared.Sampled.the-variants.{Dropped, Onward, Whole}
 use Rattle.frame.specs.Frame.{differ, has}
 use Rattle.sci.specs.Baud.{counted, format-of}
-use Rattle.sci.specs.Clocked.{bit-taken, clocked-word, last-bit, receive-bit, receive-bit-on, refresh-sync-clock, rx-clocked, sync-edge, take-bit, with-clock}
+use Rattle.words.specs.Receiver.{bit-taken, clocked-word, last-bit, rx-clocked, rx-due-on, armed, sample, sample-at, started, stepped, stopped}
+use Rattle.sci.specs.Clocked.{receive-bit, receive-bit-on, refresh-sync-clock, sync-edge, take-bit, with-clock}
 use Rattle.sci.specs.Fields.{with-rx}
-use Rattle.sci.specs.Half.{advance, clocked-edge, half-step, process-basic, rx-due-on, sync}
-use Rattle.sci.specs.Receiver.{armed, complete-receive, due-now, error-free, input-level, sample, sample-at, started, stepped, stopped}
+use Rattle.sci.specs.Half.{advance, clocked-edge, half-step, process-basic, sync}
+use Rattle.words.specs.Due.{due-now}
+use Rattle.sci.specs.Receiver.{complete-receive, error-free, input-level}
 use Rattle.laws.proofs.Branches.{by-cond}
 use Rattle.recovery.proofs.Bounds.{Fits, basic-fits, basic-twice, by-clock, by-half, format-sound, no-word, v-complete-rx}
 use Rattle.recovery.proofs.Project.{same-either, view, view-basic, view-complete, view-refresh, view-shift-out, view-tail-step}

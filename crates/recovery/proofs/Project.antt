@@ -6,17 +6,19 @@ use mathlib.Core.Bool.{Bool, true, false, not, _&&_, cond}
 use lib.Dec.{eqb}
 use lib.Bits.{bitAnd, bitOr, or-zero-r}
 use Rattle.sci.specs.declared.Port.{Port}
-use Rattle.sci.specs.declared.Receiver.{Receiver}
-use Rattle.sci.specs.declared.Receiver.the-variants.{Busy, Idle}
-use Rattle.sci.specs.declared.Rx.{Rx}
-use Rattle.sci.specs.declared.Sampled.{Sampled}
-use Rattle.sci.specs.declared.Sampled.the-variants.{Dropped, Onward, Whole}
+use Rattle.words.specs.declared.Receiver.{Receiver}
+use Rattle.words.specs.declared.Receiver.the-variants.{Busy, Idle}
+use Rattle.words.specs.declared.Rx.{Rx}
+use Rattle.words.specs.declared.Sampled.{Sampled}
+use Rattle.words.specs.declared.Sampled.the-variants.{Dropped, Onward, Whole}
 use Rattle.frame.specs.Frame.{has}
 use Rattle.sci.specs.Baud.{format-of, internal, next-fall}
 use Rattle.sci.specs.Clocked.{refresh-sync-clock, shift-out, tail-ends}
 use Rattle.sci.specs.Fields.{with-rdr, with-received, with-rx, with-ssr}
 use Rattle.sci.specs.Half.{process-basic}
-use Rattle.sci.specs.Receiver.{advance-rx, advance-rx-on, after-sample, arm-receive, arm-receive-on, armed, complete-receive, due-now, error-free, input-level, sample}
+use Rattle.words.specs.Receiver.{armed, sample}
+use Rattle.words.specs.Due.{due-now}
+use Rattle.sci.specs.Receiver.{advance-rx, advance-rx-on, after-sample, arm-receive, arm-receive-on, complete-receive, error-free, input-level}
 use Rattle.sci.specs.Registers.{load-tail}
 use Rattle.sci.specs.Sender.{advance-tx, try-start}
 use Rattle.laws.proofs.Branches.{by-cond, is-not, without}

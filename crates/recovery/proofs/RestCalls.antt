@@ -9,24 +9,26 @@ use lib.Dec.{eqb, leb}
 use lib.Bits.{bitAnd}
 use lib.ListN.{length}
 use borrow.Author.Tests.{eqb-true}
-use Rattle.sci.specs.Calls.{run as port-run}
-use Rattle.sci.specs.declared.Due.the-variants.{Never}
+use Rattle.sci.specs.Calls.{run as port-run, Answer, Call, after, bit, called, direct, done, lets-pass, passes-inside, reads, refuse, sets-line, sets-pins, sets-power, writes}
+use Rattle.words.specs.declared.Due.the-variants.{Never}
 use Rattle.sci.specs.declared.Port.{Port}
-use Rattle.sci.specs.declared.Receiver.{Receiver}
-use Rattle.sci.specs.declared.Receiver.the-variants.{Busy, Idle}
-use Rattle.sci.specs.declared.Rx.{Rx}
+use Rattle.words.specs.declared.Receiver.{Receiver}
+use Rattle.words.specs.declared.Receiver.the-variants.{Busy, Idle}
+use Rattle.words.specs.declared.Rx.{Rx}
 use Rattle.frame.proofs.Truth.{and-right}
 use Rattle.frame.specs.Frame.{differ, format, has}
 use Rattle.sci.specs.Baud.{counted, edge-counted, edge-counts, external, format-of, internal, running}
-use Rattle.sci.specs.Calls.{Answer, Call, after, bit, called, direct, done, lets-pass, passes-inside, reads, refuse, sets-line, sets-pins, sets-power, writes}
-use Rattle.sci.specs.Clocked.{bit-taken, clocked-word, last-bit, receive-bit, receive-bit-on, refresh-sync-clock, rx-clocked, sync-edge, take-bit, with-clock}
+use Rattle.words.specs.Receiver.{bit-taken, clocked-word, last-bit, rx-clocked}
+use Rattle.sci.specs.Clocked.{receive-bit, receive-bit-on, refresh-sync-clock, sync-edge, take-bit, with-clock}
 use Rattle.sci.specs.Fields.{with-input, with-input-clock, with-rx}
 use Rattle.sci.specs.Half.{advance, clocked-edge, half-step, halves, inside, process-basic, sync, uncounted}
 use Rattle.sci.specs.Pins.{external-edge, input-pins, receive-input}
 use Rattle.sci.specs.Power.{set-power}
-use Rattle.sci.specs.Receiver.{arm-receive, complete-receive, due-now, error-free, input-level}
+use Rattle.words.specs.Due.{due-now}
+use Rattle.sci.specs.Receiver.{arm-receive, complete-receive, error-free, input-level}
 use Rattle.sci.specs.Registers.{cleared, connect, handles, load-tail, peek, read, settled, status-with, status-write, stored, write}
-use Rattle.sci.specs.Sender.{holds, try-start}
+use Rattle.words.specs.Sender.{holds}
+use Rattle.sci.specs.Sender.{try-start}
 use Rattle.sci.specs.Valid.{limit, valid}
 use Rattle.laws.proofs.Branches.{by-cond, not-true}
 use Rattle.recovery.specs.Line.{Event, Item, half-passes, none-yet, other, prefix, rdr-read, signal}

@@ -5,13 +5,14 @@ use mathlib.Core.Bool.{Bool, true, not, _&&_, cond}
 use lib.Dec.{eqb}
 use lib.Bits.{bitAnd, bitOr}
 use Rattle.frame.specs.declared.Format.{Format}
-use Rattle.sci.specs.declared.Receiver.{Receiver}
-use Rattle.sci.specs.declared.Receiver.the-variants.{Busy, Idle}
-use Rattle.sci.specs.declared.Rx.{Rx}
-use Rattle.sci.specs.declared.Sampled.{Sampled}
-use Rattle.sci.specs.declared.Sampled.the-variants.{Dropped, Onward, Whole}
+use Rattle.words.specs.declared.Receiver.{Receiver}
+use Rattle.words.specs.declared.Receiver.the-variants.{Busy, Idle}
+use Rattle.words.specs.declared.Rx.{Rx}
+use Rattle.words.specs.declared.Sampled.{Sampled}
+use Rattle.words.specs.declared.Sampled.the-variants.{Dropped, Onward, Whole}
 use Rattle.frame.specs.Frame.{has}
-use Rattle.sci.specs.Receiver.{armed, completing-on, due-now, sample}
+use Rattle.words.specs.Receiver.{armed, completing-on, sample}
+use Rattle.words.specs.Due.{due-now}
 
 pub record View : Type 0 where
   pub fmt : Format

@@ -15,13 +15,13 @@ use lib.Seq.{drop-cons}
 use lib.IntN.{ℤ, pos, negsuc}
 use borrow.Author.Tests.{lt-ltb, lt-leb, eq-eqb, ne-eqb}
 use Rattle.frame.specs.declared.Format.{Format}
-use Rattle.sci.specs.declared.Due.the-variants.{At}
-use Rattle.sci.specs.declared.Receiver.{Receiver}
-use Rattle.sci.specs.declared.Receiver.the-variants.{Busy, Idle}
-use Rattle.sci.specs.declared.Rx.{Rx}
+use Rattle.words.specs.declared.Due.the-variants.{At}
+use Rattle.words.specs.declared.Receiver.{Receiver}
+use Rattle.words.specs.declared.Receiver.the-variants.{Busy, Idle}
+use Rattle.words.specs.declared.Rx.{Rx}
 use Rattle.frame.proofs.Words.{bits-length, cells-length, data-cell, number-bits, parity-at, start-cell, stop-cell, word-bits}
 use Rattle.frame.specs.Frame.{bits, differ, frame, has, number, odd-ones, one-if, stop}
-use Rattle.sci.specs.Clocked.{rx-clocked}
+use Rattle.words.specs.Receiver.{rx-clocked}
 use Rattle.recovery.specs.Line.{Count, Item, count-after, half-passes, mark, none-yet, prefix, rdr-read, signal, span, spread, stop-cells-begun, stop-cells-passed, tally-after, values, word-of}
 use Rattle.recovery.proofs.Signal.{one-le, spread-at, spread-length, tail-marks}
 use Rattle.recovery.proofs.Steps.{and-false, arm-mark, checks, falls, false-start, idle, line-arms, quiet, rx-at, rx-wait, starts, stops-at, takes}

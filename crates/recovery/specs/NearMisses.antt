@@ -2,10 +2,10 @@
 -- Assumes nothing.
 use Prim.Native.Nat.{ℕ, zero, suc}
 use mathlib.Core.Bool.{cond, not, _&&_}
-use Rattle.sci.specs.declared.Due.the-variants.{At}
+use Rattle.words.specs.declared.Due.the-variants.{At}
 use Rattle.sci.specs.declared.Port.{Port}
-use Rattle.sci.specs.declared.Receiver.{Receiver}
-use Rattle.sci.specs.declared.Receiver.the-variants.{Busy, Idle}
+use Rattle.words.specs.declared.Receiver.{Receiver}
+use Rattle.words.specs.declared.Receiver.the-variants.{Busy, Idle}
 use Rattle.frame.specs.Frame.{one-if}
 use Rattle.sci.specs.Baud.{counted, internal}
 use Rattle.sci.specs.Calls.{Answer, Call, called, direct, done, lets-pass, passes-inside, reads, refused, sets-line, sets-pins, sets-power, writes}

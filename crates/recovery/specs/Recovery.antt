@@ -17,9 +17,8 @@ use Rattle.sci.specs.declared.Port.{Port}
 use Rattle.frame.specs.Frame.{differ, has, one-if, stop}
 use Rattle.sci.specs.Baud.{format-of, internal}
 use Rattle.sci.specs.Calls.{Answer, Call, after, bit, done, lets-pass, passes-inside, reads, refused, sets-line, sets-pins, sets-power, writes}
-use Rattle.sci.specs.Clocked.{rx-clocked}
+use Rattle.words.specs.Receiver.{rx-clocked, completing-on}
 use Rattle.sci.specs.Power.{fresh}
-use Rattle.sci.specs.Receiver.{completing-on}
 use Rattle.recovery.specs.Line.{Count, Event, Item, count-after, half-passes, none-yet, other, prefix, rdr-read, signal, span-of, stop-cells-begun, stop-cells-passed, tally-after, values, word-of, words-in}
 
 -- ---- the line

@@ -1,21 +1,21 @@
 -- What the proofs of the direct calls cite: an accepted answer put together from what calls gave, and what the tests that a call has passed say.
 -- Assumes nothing.
-use mathlib.Core.Path.{_≡_, sym, ap, ap₂, _∙_}
-use mathlib.Core.Bool.{Bool, true, false, _&&_}
+use mathlib.Core.Path.{_≡_, refl, sym, ap, ap₂, _∙_}
+use mathlib.Core.Bool.{Bool, true, false, cond, _&&_}
 use Prim.Native.Nat.{ℕ, _+_, _≤_, _<_}
 use native.Mathlib.Omega.{arith}
 use lib.Dec.{leb}
 use mir.Syntax.{w8, w32}
 use mir.Val.{Fits}
-use borrow.Author.Tests.{leb-true}
+use borrow.Author.Tests.{leb-true, leb-false}
 use Rattle.frame.proofs.Truth.{and-right}
 use Rattle.sci.specs.declared.Port.{Port}
 use Rattle.sci.specs.Fields.{with-input-clock}
 use Rattle.sci.specs.Baud.{edge-counts}
-use Rattle.sci.specs.Pins.{pins-change, receive-input, external-edge}
+use Rattle.sci.specs.Pins.{receive-input, external-edge}
 use Rattle.sci.specs.Valid.{limit, valid}
 use Rattle.sci.specs.Calls.{Answer, done}
-use Rattle.sci.proofs.Checked.{flag-ready, edge-below}
+use Rattle.sci.proofs.Checked.{flag-ready}
 
 pub done-eq : (z : Answer) (v w : ℕ) (p q : Port) → z ≡ done v p → v ≡ w → p ≡ q → z ≡ done w q
 done-eq z v w p q e h k = e ∙ ap₂ done h k
@@ -32,9 +32,27 @@ pub flag-half : (r : Bool) (p : Port) → r ≡ valid p → r ≡ true → p .ha
 flag-half r p e t = flag-ready r p e t .half≤
 
 -- an edge that passed test 4 has room
-pub edge-room : (f g : Bool) (clock line : Bool) (p : Port) → f ≡ (pins-change clock line p && (edge-counts clock p && leb limit (p .half))) → f ≡ false → g ≡ pins-change clock line p
-    → g ≡ true → edge-counts clock p ≡ true → p .half < limit
-edge-room f g clock line p ef ff eg tg e = edge-below clock line p (sym eg ∙ tg) (sym ef ∙ ff) e
+pub edge-room : (f clock : Bool) (p : Port) → f ≡ (edge-counts clock p && leb limit (p .half)) → f ≡ false → edge-counts clock p ≡ true → p .half < limit
+edge-room f clock p e h k = leb-false limit (p .half) (sym (ap (λ (b : Bool). b && leb limit (p .half)) k) ∙ sym e ∙ h)
+
+-- a test of two parts whose flags calls gave
+pub ands-t : (f g a b : Bool) → f ≡ a → g ≡ b → f ≡ true → g ≡ true → (a && b) ≡ true
+ands-t f g a b e h k l = ap₂ _&&_ (sym e ∙ k) (sym h ∙ l)
+
+pub ands-left : (f a b : Bool) → f ≡ a → f ≡ false → (a && b) ≡ false
+ands-left f a b e h = ap (λ (x : Bool). x && b) (sym e ∙ h)
+
+pub ands-right : (g a b : Bool) → g ≡ b → g ≡ false → (a && b) ≡ false
+ands-right g true b e h = sym e ∙ h
+ands-right g false b e h = refl
+
+pub ruleset ands = (ands-t, ands-left, ands-right)
+
+-- the pins change, and no edge goes past the limit
+pub pins-set : (z a : Answer) (f g c x : Bool) (r q p : Port) → f ≡ c → f ≡ true → g ≡ x → g ≡ false → z ≡ done 0 r → r ≡ q → z ≡ cond (c && x) a (done 0 (cond c q p))
+pins-set z a f g c x r q p ef tf eg fg e k =
+    e ∙ ap (done 0) (k ∙ sym (ap (λ (b : Bool). cond b q p) (sym ef ∙ tf)))
+    ∙ sym (ap (λ (b : Bool). cond b a (done 0 (cond c q p))) (ands-right g c x eg fg))
 
 -- clock pin and line set, put together from what calls gave
 pub pins-of : (z r p : Port) (clock line : Bool) → z ≡ external-edge clock (with-input-clock r clock) → r ≡ receive-input line p → z ≡ external-edge clock (with-input-clock (receive-input line p) clock)

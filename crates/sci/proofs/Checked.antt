@@ -5,27 +5,29 @@ use mathlib.Core.Bool.{Bool, true, false, cond, _&&_, _||_, false≢true}
 use Prim.Native.Nat.{ℕ, _<_}
 use native.Mathlib.Omega.{arith}
 use lib.Dec.{eqb, ltb, leb}
-use borrow.Author.Tests.{leb-true, leb-false, ltb-true}
+use borrow.Author.Tests.{leb-true, ltb-true}
 use Rattle.frame.specs.declared.Format.{Format}
 use Rattle.frame.specs.Frame.{differ, stop, format-valid, word-valid}
 use Rattle.frame.proofs.Truth.{and-left, and-right}
 use Rattle.sci.specs.declared.Port.{Port}
-use Rattle.sci.specs.declared.Character.{Character}
-use Rattle.sci.specs.declared.Due.{Due}
-use Rattle.sci.specs.declared.Due.the-variants.{Never, At}
-use Rattle.sci.specs.declared.Loaded.{Loaded}
-use Rattle.sci.specs.declared.Loaded.the-variants.{Nothing, Next}
-use Rattle.sci.specs.declared.Rx.{Rx}
-use Rattle.sci.specs.declared.Receiver.{Receiver}
-use Rattle.sci.specs.declared.Receiver.the-variants.{Idle, Busy}
-use Rattle.sci.specs.declared.Tx.{Tx}
-use Rattle.sci.specs.declared.Tx.the-variants.{Off, Blocked, Mark, Start, Data, Tail}
+use Rattle.words.specs.declared.Character.{Character}
+use Rattle.words.specs.declared.Due.{Due}
+use Rattle.words.specs.declared.Due.the-variants.{Never, At}
+use Rattle.words.specs.declared.Loaded.{Loaded}
+use Rattle.words.specs.declared.Loaded.the-variants.{Nothing, Next}
+use Rattle.words.specs.declared.Rx.{Rx}
+use Rattle.words.specs.declared.Receiver.{Receiver}
+use Rattle.words.specs.declared.Receiver.the-variants.{Idle, Busy}
+use Rattle.words.specs.declared.Tx.{Tx}
+use Rattle.words.specs.declared.Tx.the-variants.{Off, Blocked, Mark, Start, Data, Tail}
 use Rattle.sci.specs.Fields.{with-input, with-input-clock}
 use Rattle.sci.specs.Baud.{edge-counts}
 use Rattle.sci.specs.Receiver.{arms, arm-receive-on, arm-receive}
-use Rattle.sci.specs.Pins.{receive-input, pins-change}
-use Rattle.sci.specs.Valid.{limit, registers-valid, due-at, due-either, due-by, character-valid, loaded-valid, cell-valid, tx-valid, position-valid, word-in-place, rx-valid, valid}
-use Rattle.sci.specs.Ready.{Bounded, Plain, Placed, PlacedIn, LoadedBounded, Below, Sendable, Ready}
+use Rattle.sci.specs.Pins.{receive-input}
+use Rattle.words.specs.Valid.{due-at, due-either, due-by, character-valid, loaded-valid, cell-valid, tx-valid, position-valid, word-in-place, rx-valid}
+use Rattle.sci.specs.Valid.{limit, registers-valid, valid}
+use Rattle.words.specs.Ready.{Bounded, Plain, Placed, PlacedIn, LoadedBounded, Below, Sendable}
+use Rattle.sci.specs.Ready.{Ready}
 use Rattle.sci.proofs.Steps.{valid-bounded}
 use Rattle.sci.proofs.Keep.{both}
 
@@ -103,14 +105,6 @@ pub flag-ready : (r : Bool) (p : Port) → r ≡ valid p → r ≡ true → Read
 flag-ready r p e h = valid-ready p (sym e ∙ h)
 
 -- ---- kind 5
--- pins that change, and test 4 passed: an edge that counts is below the limit
-pub edge-below : (clock line : Bool) (p : Port) → pins-change clock line p ≡ true
-    → (pins-change clock line p && (edge-counts clock p && leb limit (p .half))) ≡ false → edge-counts clock p ≡ true → p .half < limit
-edge-below clock line p c e h =
-    let room : leb limit (p .half) ≡ false =
-    sym (ap (λ (b : Bool). b && (edge-counts clock p && leb limit (p .half))) c ∙ ap (λ (b : Bool). b && leb limit (p .half)) h) ∙ e in
-    leb-false limit (p .half) room
-
 -- the new line and the new clock level are no part of whether an edge counts
 pub edge-counts-kept : (clock line : Bool) (p : Port) → edge-counts clock (with-input-clock (receive-input line p) clock) ≡ edge-counts clock p
 unfolding receive-input arm-receive

@@ -16,31 +16,36 @@ use Rattle.frame.specs.Frame.{has, differ, stop, one-if}
 use Rattle.frame.proofs.Truth.{and-left, and-right}
 use Rattle.frame.proofs.Words.{format-good}
 use Rattle.sci.specs.declared.Port.{Port}
-use Rattle.sci.specs.declared.Character.{Character}
-use Rattle.sci.specs.declared.Due.{Due}
-use Rattle.sci.specs.declared.Due.the-variants.{Never, At}
-use Rattle.sci.specs.declared.Holding.{Holding}
-use Rattle.sci.specs.declared.Holding.the-variants.{Empty, Byte}
-use Rattle.sci.specs.declared.Loaded.{Loaded}
-use Rattle.sci.specs.declared.Loaded.the-variants.{Nothing, Next}
-use Rattle.sci.specs.declared.Rx.{Rx}
-use Rattle.sci.specs.declared.Receiver.{Receiver}
-use Rattle.sci.specs.declared.Receiver.the-variants.{Idle, Busy}
-use Rattle.sci.specs.declared.Sampled.{Sampled}
-use Rattle.sci.specs.declared.Sampled.the-variants.{Dropped, Onward, Whole}
-use Rattle.sci.specs.declared.Tx.{Tx}
-use Rattle.sci.specs.declared.Tx.the-variants.{Off, Blocked, Mark, Start, Data, Tail}
+use Rattle.words.specs.declared.Character.{Character}
+use Rattle.words.specs.declared.Due.{Due}
+use Rattle.words.specs.declared.Due.the-variants.{Never, At}
+use Rattle.words.specs.declared.Holding.{Holding}
+use Rattle.words.specs.declared.Holding.the-variants.{Empty, Byte}
+use Rattle.words.specs.declared.Loaded.{Loaded}
+use Rattle.words.specs.declared.Loaded.the-variants.{Nothing, Next}
+use Rattle.words.specs.declared.Rx.{Rx}
+use Rattle.words.specs.declared.Receiver.{Receiver}
+use Rattle.words.specs.declared.Receiver.the-variants.{Idle, Busy}
+use Rattle.words.specs.declared.Sampled.{Sampled}
+use Rattle.words.specs.declared.Sampled.the-variants.{Dropped, Onward, Whole}
+use Rattle.words.specs.declared.Tx.{Tx}
+use Rattle.words.specs.declared.Tx.the-variants.{Off, Blocked, Mark, Start, Data, Tail}
 use Rattle.sci.specs.Fields.{with-tx, with-rx, with-input}
 use Rattle.sci.specs.Baud.{format-of, counted, edge-counted, edge-counts, next-fall, boundary}
-use Rattle.sci.specs.Receiver.{next-position, input-level, error-free, due-now, armed, sample-at, sample, arms, arm-receive-on, arm-receive, complete-receive, after-sample, advance-rx-on, advance-rx}
-use Rattle.sci.specs.Sender.{level, holds, loaded-on, preloaded-on, loaded, preloaded, preload, drive, begin, start-at, start-loaded, try-start-on, try-start, one-sent, finish-tail, tailed, next-cell, tx-next, send-step-on, advance-tx}
-use Rattle.sci.specs.Clocked.{with-clock, refresh-sync-clock, last-bit, bit-taken, take-bit, clocked-word, receive-bit-on, receive-bit, tail-ends-on, tail-ends, bit-out, shift-out-on, shift-out, sync-edge}
-use Rattle.sci.specs.Half.{process-basic, rx-due-on, sync, clocked-edge, advance, half-step, halves}
+use Rattle.words.specs.Receiver.{next-position, armed, sample-at, sample, last-bit, bit-taken, clocked-word, rx-due-on}
+use Rattle.words.specs.Due.{due-now}
+use Rattle.sci.specs.Receiver.{input-level, error-free, arms, arm-receive-on, arm-receive, complete-receive, after-sample, advance-rx-on, advance-rx}
+use Rattle.words.specs.Sender.{level, holds, tx-next}
+use Rattle.sci.specs.Sender.{loaded-on, preloaded-on, loaded, preloaded, preload, drive, begin, start-at, start-loaded, try-start-on, try-start, one-sent, finish-tail, tailed, next-cell, send-step-on, advance-tx}
+use Rattle.sci.specs.Clocked.{with-clock, refresh-sync-clock, take-bit, receive-bit-on, receive-bit, tail-ends-on, tail-ends, bit-out, shift-out-on, shift-out, sync-edge}
+use Rattle.sci.specs.Half.{process-basic, sync, clocked-edge, advance, half-step, halves}
 use Rattle.sci.specs.Registers.{scr-tx, scr-rx, write-scr, write-tdr, status-with, status-write, stored, connect, load-tail-on, load-tail}
 use Rattle.sci.specs.Power.{fresh, reset-registers, reset, with-power}
 use Rattle.sci.specs.Pins.{receive-input}
-use Rattle.sci.specs.Valid.{limit, position-valid}
-use Rattle.sci.specs.Ready.{Bounded, Plain, Placed, PlacedIn, LoadedBounded, Sendable, Ready}
+use Rattle.words.specs.Valid.{position-valid}
+use Rattle.sci.specs.Valid.{limit}
+use Rattle.words.specs.Ready.{Bounded, Plain, Placed, PlacedIn, LoadedBounded, Sendable}
+use Rattle.sci.specs.Ready.{Ready}
 use Rattle.sci.proofs.Steps.{valid-bounded}
 
 -- both results of a choice, each where it is chosen

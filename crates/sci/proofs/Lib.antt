@@ -2,8 +2,6 @@ pub mod Same
 pub mod Clauses
 pub mod Under
 pub mod Steps
-pub mod SignedLaws
-pub mod ValidLaws
 pub mod Keep
 pub mod Checked
 pub mod CallLaws

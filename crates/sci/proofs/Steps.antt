@@ -1,8 +1,8 @@
 -- What the proofs of the port's steps hand to `search`, beside the generated clauses and congruences.
 -- Assumes nothing.
 use mathlib.Core.Path.{_≡_, refl, sym, ap, ap₂, _∙_, subst, subst⁻¹}
-use mathlib.Core.Bool.{Bool, true, false, not, cond, _&&_, _||_}
-use Prim.Native.Nat.{ℕ, zero, suc, _+_, _*_, _/_, _%_, _^_, _≤_, zero-le}
+use mathlib.Core.Bool.{Bool, true, false, not, cond, _&&_}
+use Prim.Native.Nat.{ℕ, zero, suc, _+_, _-_, _*_, _/_, _%_, _^_, _≤_, zero-le}
 use native.Mathlib.Nat.{mod-le, le-trans, mul-le-mul-left, mul-le-mul-right}
 use native.Mathlib.Numerals.{add-one}
 use native.Mathlib.Omega.{arith}
@@ -10,72 +10,100 @@ use lib.Bits.{bitAnd, and-le-r}
 use lib.Dec.{eqb, leb, lit≤}
 use mir.Syntax.{w8, w32}
 use mir.Val.{Fits}
+use types.Run.{OneOf, miss}
+use denote.Enum.Declared.{tagOf}
+use mathlib.Core.List.{[], _∷_}
+use borrow.Author.Needs.{needs}
 use borrow.Author.Tests.{eq-eqb, ne-eqb, le-leb}
 use Rattle.frame.specs.declared.Format.{Format}
 use Rattle.frame.specs.Frame.{has, one-if, cells, format, word, format-valid}
-use Rattle.frame.proofs.Choose.{choose}
+use Rattle.frame.proofs.Choose.{choose, cond-t, cond-f, key-f}
 use Rattle.frame.proofs.Laws.{one-shl}
 use Rattle.frame.proofs.Words.{shape, format-good}
+use Rattle.words.proofs.Steps.{dues}
+use Rattle.words.proofs.Tx.{the-type}
 use Rattle.sci.specs.declared.Port.{Port}
-use Rattle.sci.specs.declared.Due.{Due}
-use Rattle.sci.specs.declared.Due.the-variants.{Never, At}
-use Rattle.sci.specs.declared.Character.{Character}
-use Rattle.sci.specs.declared.Loaded.{Loaded}
-use Rattle.sci.specs.declared.Loaded.the-variants.{Next}
+use Rattle.sci.specs.declared.Clock.{Clock}
+use Rattle.sci.specs.declared.Clock.the-variants.{Driven}
+use Rattle.sci.specs.declared.Drive.the-variants.{High, Low}
+use Rattle.words.specs.declared.Due.{Due}
+use Rattle.words.specs.declared.Due.the-variants.{Never, At}
+use Rattle.words.specs.declared.Character.{Character}
+use Rattle.words.specs.declared.Loaded.{Loaded}
+use Rattle.words.specs.declared.Loaded.the-variants.{Next}
 use Rattle.sci.specs.declared.Preloaded.{Preloaded}
-use Rattle.sci.specs.declared.Rx.{Rx}
-use Rattle.sci.specs.declared.Receiver.{Receiver}
-use Rattle.sci.specs.declared.Receiver.the-variants.{Busy}
-use Rattle.sci.specs.declared.Sampled.the-variants.{Onward, Whole}
-use Rattle.sci.specs.declared.Tx.{Tx}
-use Rattle.sci.specs.declared.Tx.the-variants.{Off, Blocked, Mark, Start, Data, Tail}
-use Rattle.sci.specs.Receiver.{due-now, arm-receive}
+use Rattle.words.specs.declared.Rx.{Rx}
+use Rattle.words.specs.declared.Receiver.{Receiver}
+use Rattle.words.specs.declared.Receiver.the-variants.{Busy}
+use Rattle.words.specs.declared.Sampled.the-variants.{Onward, Whole}
+use Rattle.words.specs.declared.Tx.{Tx}
+use Rattle.words.specs.declared.Tx.the-variants.{Off, Blocked, Mark, Start, Data, Tail}
+use Rattle.sci.specs.Receiver.{arm-receive}
 use Rattle.sci.specs.Fields.{with-tx}
 use Rattle.sci.specs.Baud.{format-of, boundary}
-use Rattle.sci.specs.Clocked.{clocked-word, refresh-sync-clock, sync-edge}
-use Rattle.sci.specs.Registers.{sender-on}
-use Rattle.sci.specs.Sender.{loaded, preloaded, preload, start-loaded, tailed, one-sent}
+use Rattle.words.specs.Receiver.{clocked-word}
+use Rattle.sci.specs.Clocked.{tail-ends-on, shift-out-on, refresh-sync-clock, sync-edge}
+use Rattle.sci.specs.Registers.{load-tail-on, sender-on}
+use Rattle.sci.specs.Sender.{try-start-on, loaded, preloaded, preload, start-loaded, tailed, one-sent}
+use Rattle.sci.specs.Pins.{high-or-low}
+use Rattle.sci.specs.Power.{reset, with-power}
 use Rattle.sci.specs.Half.{inside, uncounted}
 use Rattle.sci.specs.Valid.{limit}
-use Rattle.sci.specs.Ready.{Bounded, Placed, PlacedIn, LoadedBounded, Below, Sendable, Plain}
+use Rattle.words.specs.Ready.{Bounded, Placed, PlacedIn, LoadedBounded, Below, Sendable, Plain}
 
 -- ---- tests
--- a due half that is taken apart
-pub due-t : (d : Due) (n h : ℕ) → d ≡ At n → n ≡ h → due-now d h ≡ true
-due-t d n h e q = ap (λ (x : Due). due-now x h) e ∙ eq-eqb n h q
+-- an arm of a `match` on an address
+pub ruleset keys = (cond-t, cond-f, eq-eqb, ne-eqb, key-f, needs)
 
-pub due-f : (d : Due) (n h : ℕ) → d ≡ At n → (n ≡ h → ⊥) → due-now d h ≡ false
-due-f d n h e q = ap (λ (x : Due). due-now x h) e ∙ ne-eqb n h q
+-- the half that a call gave, and the present one
+pub now-t : (n m h : ℕ) → n ≡ m → n ≡ h → eqb m h ≡ true
+now-t n m h e q = eq-eqb m h (sym e ∙ q)
 
-pub due-none : (d : Due) (h : ℕ) → d ≡ Never → due-now d h ≡ false
-due-none d h e = ap (λ (x : Due). due-now x h) e
+pub now-f : (n m h : ℕ) → n ≡ m → (n ≡ h → ⊥) → eqb m h ≡ false
+now-f n m h e q = ne-eqb m h (λ k. q (e ∙ k))
 
--- the same where a call gave the due half
-pub due-call-t : (d e : Due) (n h : ℕ) → d ≡ e → d ≡ At n → n ≡ h → due-now e h ≡ true
-due-call-t d e n h g q k = due-t e n h (sym g ∙ q) k
+-- an error flag stands: not without one
+pub flagged : (x m : ℕ) → has x m ≡ not (not (has x m))
+flagged x m = not-twice (has x m) where
+  not-twice : (b : Bool) → b ≡ not (not b)
+  not-twice true = refl
+  not-twice false = refl
 
-pub due-call-f : (d e : Due) (n h : ℕ) → d ≡ e → d ≡ At n → (n ≡ h → ⊥) → due-now e h ≡ false
-due-call-f d e n h g q k = due-f e n h (sym g ∙ q) k
+pub unflagged : (x m : ℕ) (b : Bool) → has x m ≡ b → not (has x m) ≡ not b
+unflagged x m b h = ap not h
 
-pub due-call-none : (d e : Due) (h : ℕ) → d ≡ e → d ≡ Never → due-now e h ≡ false
-due-call-none d e h g q = due-none e h (sym g ∙ q)
+-- a sender in none of the states that a step is about
+pub load-tail-else : (t : Tx) (p z : Port) → OneOf (0 ∷ 1 ∷ 2 ∷ 3 ∷ 4 ∷ []) (tagOf the-type t) → z ≡ p → z ≡ load-tail-on t p
+load-tail-else Off p z h e = e
+load-tail-else (Blocked k) p z h e = e
+load-tail-else (Mark n) p z h e = e
+load-tail-else (Start k n) p z h e = e
+load-tail-else (Data k c n) p z h e = e
+load-tail-else (Tail l n) p z h e = absurd (miss (0 ∷ 1 ∷ 2 ∷ 3 ∷ 4 ∷ []) 5 tt h)
 
-pub ruleset dues = (due-t, due-f, due-none, due-call-t, due-call-f, due-call-none)
+pub tail-ends-else : (t : Tx) (p z : Port) → OneOf (0 ∷ 1 ∷ 2 ∷ 3 ∷ 4 ∷ []) (tagOf the-type t) → z ≡ p → z ≡ tail-ends-on t p
+tail-ends-else Off p z h e = e
+tail-ends-else (Blocked k) p z h e = e
+tail-ends-else (Mark n) p z h e = e
+tail-ends-else (Start k n) p z h e = e
+tail-ends-else (Data k c n) p z h e = e
+tail-ends-else (Tail l n) p z h e = absurd (miss (0 ∷ 1 ∷ 2 ∷ 3 ∷ 4 ∷ []) 5 tt h)
 
--- Bools put together from what calls gave
-pub not-eq : (a b : Bool) → a ≡ b → not a ≡ not b
-not-eq a b e = ap not e
+pub shift-out-else : (t : Tx) (p z : Port) → OneOf (0 ∷ 1 ∷ 2 ∷ 3 ∷ 5 ∷ []) (tagOf the-type t) → z ≡ p → z ≡ shift-out-on t p
+shift-out-else Off p z h e = e
+shift-out-else (Blocked k) p z h e = e
+shift-out-else (Mark n) p z h e = e
+shift-out-else (Start k n) p z h e = e
+shift-out-else (Data k c n) p z h e = absurd (miss (0 ∷ 1 ∷ 2 ∷ 3 ∷ 5 ∷ []) 4 tt h)
+shift-out-else (Tail l n) p z h e = e
 
-pub and-eq : (a b c d : Bool) → a ≡ b → c ≡ d → (a && c) ≡ (b && d)
-and-eq a b c d e h = ap₂ _&&_ e h
-
-pub or-eq : (a b c d : Bool) → a ≡ b → c ≡ d → (a || c) ≡ (b || d)
-or-eq a b c d e h = ap₂ _||_ e h
-
-pub synchronous-of : (f g : Format) → f ≡ g → f .synchronous ≡ g .synchronous
-synchronous-of f g h = ap (λ (x : Format). x .synchronous) h
-
-pub ruleset bools = (not-eq, and-eq, or-eq, synchronous-of)
+pub try-start-else : (t : Tx) (p z : Port) → OneOf (2 ∷ 3 ∷ 4 ∷ 5 ∷ []) (tagOf the-type t) → z ≡ p → z ≡ try-start-on t p
+try-start-else Off p z h e = absurd (miss (2 ∷ 3 ∷ 4 ∷ 5 ∷ []) 0 tt h)
+try-start-else (Blocked k) p z h e = absurd (miss (2 ∷ 3 ∷ 4 ∷ 5 ∷ []) 1 tt h)
+try-start-else (Mark n) p z h e = e
+try-start-else (Start k n) p z h e = e
+try-start-else (Data k c n) p z h e = e
+try-start-else (Tail l n) p z h e = e
 
 -- ---- what the state is known to hold in an arm
 pub off-sendable : (t : Tx) → t ≡ Off → Sendable t
@@ -192,9 +220,25 @@ stops-end n f hn h = record { fits = omega (arith, product≤ (f .stops) (f .«h
 pub mark-fit : (c : ℕ) (f : Format) → c ≡ cells f → Bounded f → Fits w32 (c * f .«half_bit»)
 mark-fit c f e h = record { fits = omega (arith, product≤ c (f .«half_bit») 12 32 (subst⁻¹ (λ (x : ℕ). x ≤ 12) e (cells≤ f h)) (h .half≤32)) }
 
-pub mark-end : (b n c : ℕ) (f : Format) → b ≤ n + f .«half_bit» → n ≤ limit → c ≡ cells f → Bounded f → Fits w32 (b + c * f .«half_bit»)
-mark-end b n c f hb hn e h =
+boundary-near : (p : Port) (span : ℕ) → boundary p span ≤ p .half + span
+boundary-near p span = go (eqb (p .half % span) 0 && p .edge) where
+  go : (b : Bool) → cond b (p .half) (p .half + span - p .half % span) ≤ p .half + span
+  go true = omega arith
+  go false = omega arith
+
+pub mark-end : (b c : ℕ) (p : Port) (f : Format) → b ≡ boundary p (f .«half_bit») → p .half ≤ limit → c ≡ cells f → Bounded f → Fits w32 (b + c * f .«half_bit»)
+mark-end b c p f hb hn e h =
+    let near : b ≤ p .half + f .«half_bit» = subst⁻¹ (λ (x : ℕ). x ≤ p .half + f .«half_bit») hb (boundary-near p (f .«half_bit»)) in
     record { fits = omega (arith, h .half≤32, product≤ c (f .«half_bit») 12 32 (subst⁻¹ (λ (x : ℕ). x ≤ 12) e (cells≤ f h)) (h .half≤32)) }
+
+-- the clock pin driven at a level
+pub drives-high : (b : Bool) (z : Clock) → b ≡ true → z ≡ Driven High → z ≡ Driven (high-or-low b)
+drives-high b z h e = e ∙ sym (ap (λ (x : Bool). Driven (high-or-low x)) h)
+
+pub drives-low : (b : Bool) (z : Clock) → b ≡ false → z ≡ Driven Low → z ≡ Driven (high-or-low b)
+drives-low b z h e = e ∙ sym (ap (λ (x : Bool). Driven (high-or-low x)) h)
+
+pub ruleset drives = (drives-high, drives-low)
 
 -- ---- what a call gave, in a sum or a test
 pub mod-le-sum : (n m : ℕ) → n % m ≤ n + m
@@ -246,6 +290,12 @@ sent-sendable r p e = subst⁻¹ (λ (x : Port). Sendable (x .tx)) e tt
 
 pub off-after : (r p : Port) → r ≡ with-tx p Off → Sendable (r .tx)
 off-after r p e = subst⁻¹ (λ (x : Port). Sendable (x .tx)) e tt
+
+-- the power set after a reset
+pub power-of : (z r p : Port) (module-on main-on sub-on reset-on : Bool) → z ≡ refresh-sync-clock (with-power r module-on main-on sub-on reset-on) → r ≡ reset module-on reset-on p
+    → z ≡ refresh-sync-clock (with-power (reset module-on reset-on p) module-on main-on sub-on reset-on)
+power-of z r p module-on main-on sub-on reset-on e h =
+    e ∙ ap (λ (q : Port). refresh-sync-clock (with-power q module-on main-on sub-on reset-on)) h
 
 -- the ends of two chains
 pub armed-clock-of : (z p q : Port) → z ≡ refresh-sync-clock (arm-receive p) → p ≡ q → z ≡ refresh-sync-clock (arm-receive q)

@@ -4,26 +4,24 @@
 use mathlib.Core.Path.{_≡_, ap, sym, _∙_}
 use Prim.Native.Nat.{ℕ}
 use mathlib.Core.Bool.{Bool}
-use lib.IntN.{ℤ}
-use Rattle.frame.specs.declared.Format.{Format}
-use Rattle.sci.specs.declared.Character.{Character}
-use Rattle.sci.specs.declared.Rx.{Rx}
+use Rattle.words.specs.declared.Character.{Character}
+use Rattle.words.specs.declared.Rx.{Rx}
+use Rattle.words.specs.declared.Due.{Due}
+use Rattle.words.specs.declared.Holding.{Holding}
+use Rattle.words.specs.declared.Loaded.{Loaded}
+use Rattle.words.specs.declared.Tx.{Tx}
+use Rattle.words.specs.declared.Receiver.{Receiver}
+use Rattle.words.specs.declared.Sampled.{Sampled}
 use Rattle.sci.specs.declared.Port.{Port}
 use Rattle.sci.specs.declared.Preloaded.{Preloaded}
-use Rattle.sci.specs.declared.Due.{Due}
-use Rattle.sci.specs.declared.Holding.{Holding}
-use Rattle.sci.specs.declared.Loaded.{Loaded}
-use Rattle.sci.specs.declared.Tx.{Tx}
-use Rattle.sci.specs.declared.Receiver.{Receiver}
-use Rattle.sci.specs.declared.Sampled.{Sampled}
 use Rattle.sci.specs.Baud.{counted, edge-counted}
 use Rattle.sci.specs.Calls.{Answer, after}
-use Rattle.sci.specs.Clocked.{with-clock, refresh-sync-clock, bit-taken, take-bit, clocked-word, receive-bit-on, receive-bit, finish-clocked, tail-ends-on, tail-ends, bit-out, shift-clocked, shift-out-on, shift-out, sync-edge}
+use Rattle.sci.specs.Clocked.{with-clock, refresh-sync-clock, take-bit, receive-bit-on, receive-bit, finish-clocked, tail-ends-on, tail-ends, bit-out, shift-clocked, shift-out-on, shift-out, sync-edge}
 use Rattle.sci.specs.Fields.{with-holding, with-tx, with-rx, with-sync-next}
 use Rattle.sci.specs.Half.{process-basic, sync, clocked-edge, advance, half-step, halves, inside, uncounted}
 use Rattle.sci.specs.Pins.{receive-input, external-edge, input-pins}
 use Rattle.sci.specs.Power.{carried, reset-registers, reset, with-power, set-power}
-use Rattle.sci.specs.Receiver.{armed, started, stepped, stopped, sample-at, sample, arm-receive-on, arm-receive, complete-receive, after-sample, advance-rx-on, advance-rx}
+use Rattle.sci.specs.Receiver.{arm-receive-on, arm-receive, complete-receive, after-sample, advance-rx-on, advance-rx}
 use Rattle.sci.specs.Registers.{read, sender-off, sender-on, scr-tx, scr-rx, write-scr, write-tdr, status-with, status-write, stored, connect, fill-tail, load-tail-on, load-tail, settled, write}
 use Rattle.sci.specs.Sender.{preloaded-on, preloaded, preload, drive, begin, start-at, start-loaded, try-start-on, try-start, one-sent, finish-tail, tailed, next-cell, send-step-on, advance-tx-on, advance-tx}
 
@@ -42,14 +40,8 @@ with-clock-of z x0 y0 x1 y1 x2 y2 e h0 h1 h2 = e ∙ (λ j. with-clock (h0 j) (h
 pub refresh-sync-clock-of : (z : Port) (x0 y0 : Port) → z ≡ refresh-sync-clock x0 → x0 ≡ y0 → z ≡ refresh-sync-clock y0
 refresh-sync-clock-of z x0 y0 e h0 = e ∙ (λ j. refresh-sync-clock (h0 j))
 
-pub bit-taken-of : (z : Rx) (x0 y0 : Bool) (x1 y1 : Rx) → z ≡ bit-taken x0 x1 → x0 ≡ y0 → x1 ≡ y1 → z ≡ bit-taken y0 y1
-bit-taken-of z x0 y0 x1 y1 e h0 h1 = e ∙ (λ j. bit-taken (h0 j) (h1 j))
-
 pub take-bit-of : (z : Port) (x0 y0 : Port) (x1 y1 : Rx) → z ≡ take-bit x0 x1 → x0 ≡ y0 → x1 ≡ y1 → z ≡ take-bit y0 y1
 take-bit-of z x0 y0 x1 y1 e h0 h1 = e ∙ (λ j. take-bit (h0 j) (h1 j))
-
-pub clocked-word-of : (z : Rx) (x0 y0 : Format) → z ≡ clocked-word x0 → x0 ≡ y0 → z ≡ clocked-word y0
-clocked-word-of z x0 y0 e h0 = e ∙ (λ j. clocked-word (h0 j))
 
 pub receive-bit-on-of : (z : Port) (x0 y0 : Receiver) (x1 y1 : Port) → z ≡ receive-bit-on x0 x1 → x0 ≡ y0 → x1 ≡ y1 → z ≡ receive-bit-on y0 y1
 receive-bit-on-of z x0 y0 x1 y1 e h0 h1 = e ∙ (λ j. receive-bit-on (h0 j) (h1 j))
@@ -140,24 +132,6 @@ with-power-of z x0 y0 x1 y1 x2 y2 x3 y3 x4 y4 e h0 h1 h2 h3 h4 = e ∙ (λ j. wi
 
 pub set-power-of : (z : Port) (x0 y0 : Bool) (x1 y1 : Bool) (x2 y2 : Bool) (x3 y3 : Bool) (x4 y4 : Port) → z ≡ set-power x0 x1 x2 x3 x4 → x0 ≡ y0 → x1 ≡ y1 → x2 ≡ y2 → x3 ≡ y3 → x4 ≡ y4 → z ≡ set-power y0 y1 y2 y3 y4
 set-power-of z x0 y0 x1 y1 x2 y2 x3 y3 x4 y4 e h0 h1 h2 h3 h4 = e ∙ (λ j. set-power (h0 j) (h1 j) (h2 j) (h3 j) (h4 j))
-
-pub armed-of : (z : Rx) (x0 y0 : Format) (x1 y1 : ℕ) → z ≡ armed x0 x1 → x0 ≡ y0 → x1 ≡ y1 → z ≡ armed y0 y1
-armed-of z x0 y0 x1 y1 e h0 h1 = e ∙ (λ j. armed (h0 j) (h1 j))
-
-pub started-of : (z : Rx) (x0 y0 : Format) (x1 y1 : ℕ) (x2 y2 : Rx) → z ≡ started x0 x1 x2 → x0 ≡ y0 → x1 ≡ y1 → x2 ≡ y2 → z ≡ started y0 y1 y2
-started-of z x0 y0 x1 y1 x2 y2 e h0 h1 h2 = e ∙ (λ j. started (h0 j) (h1 j) (h2 j))
-
-pub stepped-of : (z : Rx) (x0 y0 : ℕ) (x1 y1 : ℤ) (x2 y2 : ℕ) (x3 y3 : Bool) (x4 y4 : ℕ) (x5 y5 : Rx) → z ≡ stepped x0 x1 x2 x3 x4 x5 → x0 ≡ y0 → x1 ≡ y1 → x2 ≡ y2 → x3 ≡ y3 → x4 ≡ y4 → x5 ≡ y5 → z ≡ stepped y0 y1 y2 y3 y4 y5
-stepped-of z x0 y0 x1 y1 x2 y2 x3 y3 x4 y4 x5 y5 e h0 h1 h2 h3 h4 h5 = e ∙ (λ j. stepped (h0 j) (h1 j) (h2 j) (h3 j) (h4 j) (h5 j))
-
-pub stopped-of : (z : Rx) (x0 y0 : Bool) (x1 y1 : Rx) → z ≡ stopped x0 x1 → x0 ≡ y0 → x1 ≡ y1 → z ≡ stopped y0 y1
-stopped-of z x0 y0 x1 y1 e h0 h1 = e ∙ (λ j. stopped (h0 j) (h1 j))
-
-pub sample-at-of : (z : Sampled) (x0 y0 : ℤ) (x1 y1 : Format) (x2 y2 : Bool) (x3 y3 : ℕ) (x4 y4 : Rx) → z ≡ sample-at x0 x1 x2 x3 x4 → x0 ≡ y0 → x1 ≡ y1 → x2 ≡ y2 → x3 ≡ y3 → x4 ≡ y4 → z ≡ sample-at y0 y1 y2 y3 y4
-sample-at-of z x0 y0 x1 y1 x2 y2 x3 y3 x4 y4 e h0 h1 h2 h3 h4 = e ∙ (λ j. sample-at (h0 j) (h1 j) (h2 j) (h3 j) (h4 j))
-
-pub sample-of : (z : Sampled) (x0 y0 : Format) (x1 y1 : Bool) (x2 y2 : ℕ) (x3 y3 : Rx) → z ≡ sample x0 x1 x2 x3 → x0 ≡ y0 → x1 ≡ y1 → x2 ≡ y2 → x3 ≡ y3 → z ≡ sample y0 y1 y2 y3
-sample-of z x0 y0 x1 y1 x2 y2 x3 y3 e h0 h1 h2 h3 = e ∙ (λ j. sample (h0 j) (h1 j) (h2 j) (h3 j))
 
 pub arm-receive-on-of : (z : Port) (x0 y0 : Receiver) (x1 y1 : Port) → z ≡ arm-receive-on x0 x1 → x0 ≡ y0 → x1 ≡ y1 → z ≡ arm-receive-on y0 y1
 arm-receive-on-of z x0 y0 x1 y1 e h0 h1 = e ∙ (λ j. arm-receive-on (h0 j) (h1 j))

@@ -1,7 +1,7 @@
 -- The direct calls of kinds 1 to 7 (document 01, "A script comes in"), with the refusals 8, 2, 1, 3, 4 in that order.
 -- Assumes nothing.
 use Prim.Native.Nat.{ℕ, _+_}
-use mathlib.Core.Bool.{Bool, true, false, cond, not, _&&_, _||_}
+use mathlib.Core.Bool.{Bool, cond, not, _&&_}
 use mathlib.Core.List.{List, [], _∷_}
 use lib.Dec.{eqb, leb}
 use Rattle.frame.specs.Frame.{has}

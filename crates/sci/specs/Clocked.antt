@@ -1,43 +1,27 @@
 -- Clocked form: when its clock runs, and what each of the clock's edges does (document 01, "One half", "Sender", "Receiver").
 -- Assumes nothing.
-use Prim.Native.Nat.{ℕ, zero, suc, _+_, _^_}
-use mathlib.Core.Bool.{Bool, true, false, cond, not, _&&_, _||_}
+use Prim.Native.Nat.{ℕ, suc, _+_}
+use mathlib.Core.Bool.{Bool, true, cond, _&&_, _||_}
 use lib.Dec.{eqb}
-use lib.Bits.{bitOr}
-use lib.IntN.{ℤ, pos, negsuc}
-use Rattle.frame.specs.declared.Format.{Format}
 use Rattle.frame.specs.Frame.{has}
+use Rattle.words.specs.Due.{due-or}
+use Rattle.words.specs.Sender.{tx-clocked}
+use Rattle.words.specs.Receiver.{clocked-word, bit-taken, last-bit, rx-clocked}
 use Rattle.sci.specs.declared.Port.{Port}
-use Rattle.sci.specs.declared.Character.{Character}
-use Rattle.sci.specs.declared.Due.{Due}
-use Rattle.sci.specs.declared.Due.the-variants.{Never, At}
-use Rattle.sci.specs.declared.Loaded.{Loaded}
-use Rattle.sci.specs.declared.Rx.{Rx}
-use Rattle.sci.specs.declared.Receiver.{Receiver}
-use Rattle.sci.specs.declared.Receiver.the-variants.{Idle, Busy}
-use Rattle.sci.specs.declared.Tx.{Tx}
-use Rattle.sci.specs.declared.Tx.the-variants.{Off, Blocked, Mark, Start, Data, Tail}
+use Rattle.words.specs.declared.Character.{Character}
+use Rattle.words.specs.declared.Due.{Due}
+use Rattle.words.specs.declared.Due.the-variants.{Never, At}
+use Rattle.words.specs.declared.Loaded.{Loaded}
+use Rattle.words.specs.declared.Rx.{Rx}
+use Rattle.words.specs.declared.Receiver.{Receiver}
+use Rattle.words.specs.declared.Receiver.the-variants.{Idle, Busy}
+use Rattle.words.specs.declared.Tx.{Tx}
+use Rattle.words.specs.declared.Tx.the-variants.{Off, Blocked, Mark, Start, Data, Tail}
 use Rattle.sci.specs.Fields.{with-rx, with-tx, with-sck, with-sync-next}
 use Rattle.sci.specs.Baud.{format-of, external}
-use Rattle.sci.specs.Receiver.{input-level, error-free, next-position, bit-at, complete-receive}
-use Rattle.sci.specs.Sender.{level, preload, drive, tailed, finish-tail}
-
-abbrev pub absent : Due → Bool
-absent Never = true
-absent (At n) = false
-
--- a clocked word is being sent: data or tail without a due half
-abbrev pub tx-clocked : Tx → Bool
-tx-clocked Off = false
-tx-clocked (Blocked ch) = false
-tx-clocked (Mark next) = false
-tx-clocked (Start ch next) = false
-tx-clocked (Data ch cell next) = absent next
-tx-clocked (Tail l next) = absent next
-
-abbrev pub rx-clocked : Receiver → Bool
-rx-clocked Idle = false
-rx-clocked (Busy r) = r .format .synchronous
+use Rattle.sci.specs.Receiver.{input-level, error-free, complete-receive}
+use Rattle.words.specs.Sender.{level}
+use Rattle.sci.specs.Sender.{preload, drive, tailed, finish-tail}
 
 -- the clock runs for a clocked word that is sent, and for reception in clocked form while no error flag stands
 abbrev pub sync-needed : Port → Bool
@@ -48,10 +32,6 @@ sync-needed p =
 abbrev pub with-clock : Port → Due → Bool → Port
 with-clock p next high = with-sync-next (with-sck p high) next
 
-abbrev pub due-or : Due → ℕ → Due
-due-or Never n = At n
-due-or (At m) n = At m
-
 -- on the external clock no edge is planned; on the internal one the next edge is two halves on, if none is planned; an idle clock is high
 unfoldable pub refresh-sync-clock : Port → Port
 refresh-sync-clock p =
@@ -60,22 +40,11 @@ refresh-sync-clock p =
     (with-clock p Never true))
 
 -- ---- a rising edge: a bit is received, and a clocked tail ends
-abbrev pub last-bit : ℤ → Bool
-last-bit (pos j) = eqb j 7
-last-bit (negsuc j) = false
-
-abbrev pub bit-taken : Bool → Rx → Rx
-bit-taken high r =
-    record { format = r .format; value = cond high (bitOr (r .value) (bit-at (r .position))) (r .value); position = next-position (r .position); parity = r .parity; error = r .error; next = r .next }
-
 -- the eighth bit makes the word whole
 unfoldable pub take-bit : Port → Rx → Port
 take-bit p r =
     cond (last-bit (r .position)) (complete-receive (with-rx p Idle) (bit-taken (input-level p) r))
     (with-rx p (Busy (bit-taken (input-level p) r)))
-
-abbrev pub clocked-word : Format → Rx
-clocked-word f = record { format = f; value = 0; position = pos 0; parity = false; error = 0; next = Never }
 
 -- a clocked word goes on, or begins if the present format is clocked
 abbrev pub receive-bit-on : Receiver → Port → Port

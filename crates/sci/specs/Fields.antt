@@ -3,11 +3,11 @@
 -- Assumes nothing.
 use Prim.Native.Nat.{ℕ}
 use mathlib.Core.Bool.{Bool}
+use Rattle.words.specs.declared.Due.{Due}
+use Rattle.words.specs.declared.Holding.{Holding}
+use Rattle.words.specs.declared.Tx.{Tx}
+use Rattle.words.specs.declared.Receiver.{Receiver}
 use Rattle.sci.specs.declared.Port.{Port}
-use Rattle.sci.specs.declared.Due.{Due}
-use Rattle.sci.specs.declared.Holding.{Holding}
-use Rattle.sci.specs.declared.Tx.{Tx}
-use Rattle.sci.specs.declared.Receiver.{Receiver}
 
 abbrev pub with-spcr : Port → ℕ → Port
 with-spcr p v = record { spcr = v; smr = p .smr; brr = p .brr; scr = p .scr; tdr = p .tdr; ssr = p .ssr; rdr = p .rdr; semr = p .semr; ircr = p .ircr; seen = p .seen; «module» = p .«module»; main = p .main; sub = p .sub; «reset_mode» = p .«reset_mode»; half = p .half; high = p .high; edge = p .edge; holding = p .holding; tx = p .tx; rx = p .rx; uart = p .uart; «bit_start» = p .«bit_start»; input = p .input; «input_clock» = p .«input_clock»; sck = p .sck; «sync_next» = p .«sync_next»; transmitted = p .transmitted; received = p .received }

@@ -1,25 +1,20 @@
 -- One half (document 01, "One half"): count, and if a start-stop receiver is due now the basic work and a refresh; then basic work, clocked edge, refresh.
 -- Assumes nothing.
 use Prim.Native.Nat.{ℕ, zero, suc}
-use mathlib.Core.Bool.{Bool, true, false, cond, not, _&&_}
+use mathlib.Core.Bool.{false, cond, not}
+use Rattle.words.specs.Receiver.{rx-due-on}
 use Rattle.sci.specs.declared.Port.{Port}
-use Rattle.sci.specs.declared.Due.the-variants.{Never}
-use Rattle.sci.specs.declared.Receiver.{Receiver}
-use Rattle.sci.specs.declared.Receiver.the-variants.{Idle, Busy}
+use Rattle.words.specs.declared.Due.the-variants.{Never}
 use Rattle.sci.specs.Fields.{with-edge}
 use Rattle.sci.specs.Baud.{counted}
-use Rattle.sci.specs.Receiver.{due-now, arm-receive, advance-rx}
+use Rattle.words.specs.Due.{due-now}
+use Rattle.sci.specs.Receiver.{arm-receive, advance-rx}
 use Rattle.sci.specs.Sender.{advance-tx}
 use Rattle.sci.specs.Clocked.{with-clock, refresh-sync-clock, sync-edge}
 
 -- the basic work at a half: the sender's step, the receiver's, and a new word if the line asks for one
 unfoldable pub process-basic : Port → Port
 process-basic p = arm-receive (advance-rx (advance-tx p))
-
--- a start-stop receiver is due now
-abbrev pub rx-due-on : Receiver → ℕ → Bool
-rx-due-on Idle half = false
-rx-due-on (Busy r) half = not (r .format .synchronous) && due-now (r .next) half
 
 -- what `sync` does on the way to `advance`
 unfoldable pub sync : Port → Port

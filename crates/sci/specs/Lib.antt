@@ -9,5 +9,4 @@ pub mod Power
 pub mod Pins
 pub mod Valid
 pub mod Calls
-pub mod Facts
 pub mod Ready

@@ -1,7 +1,7 @@
 -- The pins in and out, and the interrupt request (document 01, "The nine registers": `input_pins`, `pins`, `interrupt`).
 -- Assumes nothing.
 use Prim.Native.Nat.{ℕ, _/_, _%_}
-use mathlib.Core.Bool.{Bool, true, false, cond, not, _&&_, _||_}
+use mathlib.Core.Bool.{Bool, cond, _&&_, _||_}
 use lib.Dec.{leb}
 use Rattle.frame.specs.Frame.{has, differ}
 use Rattle.sci.specs.declared.Port.{Port}

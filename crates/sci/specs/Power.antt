@@ -3,10 +3,10 @@
 use Prim.Native.Nat.{ℕ}
 use mathlib.Core.Bool.{Bool, true, false, cond, not, _&&_}
 use Rattle.sci.specs.declared.Port.{Port}
-use Rattle.sci.specs.declared.Due.the-variants.{Never}
-use Rattle.sci.specs.declared.Holding.the-variants.{Empty}
-use Rattle.sci.specs.declared.Receiver.the-variants.{Idle}
-use Rattle.sci.specs.declared.Tx.the-variants.{Off}
+use Rattle.words.specs.declared.Due.the-variants.{Never}
+use Rattle.words.specs.declared.Holding.the-variants.{Empty}
+use Rattle.words.specs.declared.Receiver.the-variants.{Idle}
+use Rattle.words.specs.declared.Tx.the-variants.{Off}
 use Rattle.sci.specs.Fields.{with-spcr, with-module, with-main, with-sub, with-reset-mode, with-input, with-input-clock, with-transmitted, with-received}
 use Rattle.sci.specs.Clocked.{refresh-sync-clock}
 

@@ -1,23 +1,24 @@
 -- The nine registers (document 01, "The nine registers"): reading, writing, and the status write.
 -- Assumes nothing.
 use Prim.Native.Nat.{ℕ, _+_, _-_, _*_}
-use mathlib.Core.Bool.{Bool, true, false, cond, not, _&&_, _||_}
+use mathlib.Core.Bool.{Bool, true, cond, not, _&&_, _||_}
 use lib.Dec.{eqb, leb}
 use lib.Bits.{bitAnd, bitOr}
 use Rattle.frame.specs.Frame.{has, cells}
 use Rattle.sci.specs.declared.Port.{Port}
-use Rattle.sci.specs.declared.Due.{Due}
-use Rattle.sci.specs.declared.Due.the-variants.{Never, At}
-use Rattle.sci.specs.declared.Holding.the-variants.{Empty, Byte}
-use Rattle.sci.specs.declared.Loaded.{Loaded}
-use Rattle.sci.specs.declared.Loaded.the-variants.{Nothing, Next}
-use Rattle.sci.specs.declared.Receiver.the-variants.{Idle}
-use Rattle.sci.specs.declared.Tx.{Tx}
-use Rattle.sci.specs.declared.Tx.the-variants.{Off, Blocked, Mark, Start, Data, Tail}
+use Rattle.words.specs.declared.Due.{Due}
+use Rattle.words.specs.declared.Due.the-variants.{Never}
+use Rattle.words.specs.declared.Holding.the-variants.{Empty, Byte}
+use Rattle.words.specs.declared.Loaded.{Loaded}
+use Rattle.words.specs.declared.Loaded.the-variants.{Nothing, Next}
+use Rattle.words.specs.declared.Receiver.the-variants.{Idle}
+use Rattle.words.specs.declared.Tx.{Tx}
+use Rattle.words.specs.declared.Tx.the-variants.{Off, Blocked, Mark, Start, Data, Tail}
 use Rattle.sci.specs.Fields.{with-spcr, with-smr, with-brr, with-scr, with-tdr, with-ssr, with-semr, with-ircr, with-seen, with-uart, with-tx, with-rx, with-holding, with-high, with-sync-next}
 use Rattle.sci.specs.Baud.{format-of, external, boundary}
 use Rattle.sci.specs.Receiver.{arm-receive}
-use Rattle.sci.specs.Sender.{holds, preload, tailed, try-start}
+use Rattle.words.specs.Sender.{holds}
+use Rattle.sci.specs.Sender.{preload, tailed, try-start}
 use Rattle.sci.specs.Clocked.{refresh-sync-clock}
 
 -- the nine addresses: SPCR; SMR, BRR, SCR, TDR, SSR, RDR; SEMR, IRCR

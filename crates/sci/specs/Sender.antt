@@ -1,36 +1,30 @@
 -- The sender (document 01, "Sender"): blocked, mark, start, data with a cell number, and tail.
 -- Assumes nothing.
 use Prim.Native.Nat.{ℕ, suc, _+_, _*_, _%_, _^_}
-use mathlib.Core.Bool.{Bool, true, false, cond, not, _&&_, _||_}
+use mathlib.Core.Bool.{Bool, cond, not, _&&_, _||_}
 use lib.Dec.{eqb}
 use lib.Bits.{bitAnd, bitOr}
 use Rattle.frame.specs.Frame.{has, stop, word}
+use Rattle.words.specs.Sender.{level, holds, tx-next}
 use Rattle.sci.specs.declared.Port.{Port}
-use Rattle.sci.specs.declared.Character.{Character}
-use Rattle.sci.specs.declared.Due.{Due}
-use Rattle.sci.specs.declared.Due.the-variants.{Never, At}
-use Rattle.sci.specs.declared.Holding.{Holding}
-use Rattle.sci.specs.declared.Holding.the-variants.{Empty, Byte}
-use Rattle.sci.specs.declared.Loaded.{Loaded}
-use Rattle.sci.specs.declared.Loaded.the-variants.{Nothing, Next}
-use Rattle.sci.specs.declared.Tx.{Tx}
-use Rattle.sci.specs.declared.Tx.the-variants.{Off, Blocked, Mark, Start, Data, Tail}
+use Rattle.words.specs.declared.Character.{Character}
+use Rattle.words.specs.declared.Due.{Due}
+use Rattle.words.specs.declared.Due.the-variants.{Never, At}
+use Rattle.words.specs.declared.Holding.{Holding}
+use Rattle.words.specs.declared.Holding.the-variants.{Empty, Byte}
+use Rattle.words.specs.declared.Loaded.{Loaded}
+use Rattle.words.specs.declared.Loaded.the-variants.{Nothing, Next}
+use Rattle.words.specs.declared.Tx.{Tx}
+use Rattle.words.specs.declared.Tx.the-variants.{Off, Blocked, Mark, Start, Data, Tail}
 use Rattle.sci.specs.declared.Preloaded.{Preloaded}
 use Rattle.sci.specs.Fields.{with-tx, with-ssr, with-holding, with-uart, with-bit-start, with-transmitted}
 use Rattle.sci.specs.Baud.{format-of, boundary}
-use Rattle.sci.specs.Receiver.{error-free, due-now}
+use Rattle.words.specs.Due.{due-now}
+use Rattle.sci.specs.Receiver.{error-free}
 
 -- the word of a value, in the format that the registers ask for now
 abbrev pub character : Port → ℕ → Character
 character p v = record { format = format-of p; word = word (format-of p) v }
-
--- the level of a cell of a word
-abbrev pub level : Character → ℕ → Bool
-level ch cell = has (ch .word) (2 ^ cell)
-
-abbrev pub holds : Holding → Bool
-holds Empty = false
-holds (Byte v) = true
 
 -- the holding place's byte becomes the next word and TDRE is set, TEND clear; with none TEND is set
 abbrev pub loaded-on : Holding → Port → Loaded
@@ -103,15 +97,6 @@ next-cell ch cell p =
     cond (eqb cell (stop (ch .format)))
     (tailed (preload (drive p (level ch cell))) (At (p .half + ch .format .stops * ch .format .«half_bit»)))
     (with-tx (drive p (level ch cell)) (Data ch cell (At (p .half + ch .format .«half_bit»))))
-
--- the half on which the sender acts next
-abbrev pub tx-next : Tx → Due
-tx-next Off = Never
-tx-next (Blocked ch) = Never
-tx-next (Mark next) = At next
-tx-next (Start ch next) = At next
-tx-next (Data ch cell next) = next
-tx-next (Tail l next) = next
 
 -- what it does then
 abbrev pub send-step-on : Tx → Port → Port

@@ -1,98 +1,38 @@
 // SCI3 of the H8/38602R as a value: registers, sender, receiver and clock of sci.rs (document 01).
 ghost use mathlib.Core.Path.{_≡_};
-ghost use mathlib.Core.Bool.{true, false, not, cond, _&&_, _||_};
-ghost use Prim.Native.Nat.{suc, _≤_, _<_, _+_, _/_, _%_, _^_};
+ghost use mathlib.Core.Bool.{true, false, cond, _&&_};
+ghost use Prim.Native.Nat.{suc, _≤_, _<_, _+_, _%_, _^_};
 ghost use lib.Bits.{bitOr};
 ghost use lib.Dec.{leb};
-ghost use Rattle.frame.specs.Frame.{has, differ};
-ghost use Rattle.sci.specs.declared.Receiver.the-variants.{Idle, Busy};
-ghost use Rattle.sci.specs.declared.Tx.the-variants.{Off, Blocked};
-ghost use Rattle.sci.specs.declared.Due.the-variants.{Never};
+ghost use Rattle.words.specs.declared.Receiver.the-variants.{Idle, Busy};
+ghost use Rattle.words.specs.declared.Tx.the-variants.{Off};
 ghost use Rattle.sci.specs.Fields.{with-ssr, with-rdr, with-received, with-holding, with-tx, with-rx, with-sync-next, with-input-clock};
 ghost use Rattle.sci.specs.Baud.{format-of, external, running, internal, edge-counted, edge-counts, next-fall, boundary};
-ghost use Rattle.sci.specs.Receiver.{input-level, error-free, due-now, armed, started, bit-at, stepped, stopped, sample, arms, arm-receive, complete-receive, after-sample, advance-rx};
-ghost use Rattle.sci.specs.Sender.{character, level, holds, preload, drive, begin, start-at, start-loaded, try-start-on, try-start, one-sent, finish-tail, tailed, next-cell, tx-next, send-step-on, advance-tx};
-ghost use Rattle.sci.specs.Clocked.{absent, tx-clocked, rx-clocked, sync-needed, with-clock, due-or, refresh-sync-clock, last-bit, bit-taken, take-bit, clocked-word, receive-bit-on, receive-bit, tail-ends, bit-out, shift-out, sync-edge};
-ghost use Rattle.sci.specs.Half.{process-basic, rx-due-on, sync, clocked-edge, advance, half-step, halves, inside, uncounted};
-ghost use Rattle.sci.specs.Registers.{handles, peek, read, sender-off, sender-on, scr-tx, scr-rx, write-scr, write-tdr, cleared, status-with, status-write, stored, connect, fill-tail, load-tail, settled, write};
-ghost use Rattle.sci.specs.Power.{fresh, carried, reset-registers, reset, with-power, set-power};
+ghost use Rattle.words.specs.Receiver.{armed, started, bit-at, stepped, sample, bit-taken};
+ghost use Rattle.sci.specs.Receiver.{input-level, arms, arm-receive, complete-receive, after-sample, advance-rx};
+ghost use Rattle.words.specs.Sender.{level};
+ghost use Rattle.sci.specs.Sender.{character, preload, drive, begin, start-at, start-loaded, try-start-on, try-start, one-sent, finish-tail, tailed, next-cell, send-step-on, advance-tx};
+ghost use Rattle.sci.specs.Clocked.{sync-needed, refresh-sync-clock, take-bit, receive-bit-on, receive-bit, tail-ends, bit-out, shift-out, sync-edge};
+ghost use Rattle.sci.specs.Half.{process-basic, sync, clocked-edge, advance, half-step, halves, inside, uncounted};
+ghost use Rattle.sci.specs.Registers.{handles, peek, read, sender-off, sender-on, scr-tx, write-scr, write-tdr, status-write, stored, connect, load-tail, settled, write};
+ghost use Rattle.sci.specs.Power.{fresh, carried, reset-registers, reset, set-power};
 ghost use Rattle.sci.specs.Pins.{receive-input, external-edge, pins-change, transmit-level, clock-level, clock-drive, pins, interrupt, level-number};
-ghost use Rattle.sci.specs.Valid.{limit, registers-valid, due-at, due-either, due-by, character-valid, loaded-valid, cell-valid, tx-valid, position-valid, word-in-place, rx-valid, valid};
+ghost use Rattle.sci.specs.Valid.{limit, registers-valid, valid};
 ghost use Rattle.sci.specs.Calls.{done, refuse, direct, reads, writes, lets-pass, sets-line, sets-pins, sets-power, passes-inside, number, answer};
-ghost use Rattle.sci.specs.Ready.{Bounded, Placed, Shiftable, PlacedIn, LoadedBounded, Sendable, Ready, falling, starting, in-data, at-parity};
+ghost use Rattle.words.specs.Ready.{Bounded, Placed, Shiftable, PlacedIn, LoadedBounded, Sendable, in-data, at-parity};
+ghost use Rattle.sci.specs.Ready.{Ready};
 use frame::Format;
+use words::Character;
+use words::Due;
+use words::Holding;
+use words::Loaded;
+use words::Receiver;
+use words::Rx;
+use words::Sampled;
+use words::Tx;
 
 // Number 4's limit on the half count.
 const LIMIT: u32 = 4_000_000_000;
-
-// A half at which something falls due, if any.
-pub enum Due {
-    Never,
-    At(u32),
-}
-
-// The holding place between TDR and the sender.
-pub enum Holding {
-    Empty,
-    Byte(u8),
-}
-
-pub struct Character {
-    pub format: Format,
-    pub word: u16,
-}
-
-// The next word, where one has been taken from the holding place.
-pub enum Loaded {
-    Nothing,
-    Next(Character),
-}
-
-// The sender: absent, or in one of document 01's five states.
-pub enum Tx {
-    Off,
-    Blocked {
-        character: Character,
-    },
-    Mark {
-        next: u32,
-    },
-    Start {
-        character: Character,
-        next: u32,
-    },
-    Data {
-        character: Character,
-        cell: u8,
-        next: Due,
-    },
-    Tail {
-        loaded: Loaded,
-        next: Due,
-    },
-}
-
-// A word being received. Position: -2 waits for a falling phase, -1 for the middle of the start cell.
-pub struct Rx {
-    pub format: Format,
-    pub value: u8,
-    pub position: i8,
-    pub parity: bool,
-    pub error: u8,
-    pub next: Due,
-}
-
-pub enum Receiver {
-    Idle,
-    Busy(Rx),
-}
-
-// What a sample makes of the word in the receiver.
-pub enum Sampled {
-    Dropped,
-    Onward(Rx),
-    Whole(Rx),
-}
 
 pub struct Port {
     pub spcr: u8,
@@ -180,278 +120,119 @@ pub struct Called {
     pub port: Port,
 }
 
-impl Due {
-    fn absent(self) -> bool
-        ensures { λ r. ⌜ r ≡ absent self ⌝ }
-    {
-        let Due::At(_) = self else {
-            return true;
-        };
-        false
-    }
+// ---- a word on its way
+// The level of a cell of the word.
+fn level(character: Character, cell: u8) -> bool
+    requires { ⌜ cell ≤ 15 ⌝ }
+    ensures { λ r. ⌜ r ≡ level character cell ⌝ }
+{
+    character.word & (1 << cell) != 0
+}
 
-    // Whether this is the half.
-    fn now(self, half: u32) -> bool
-        ensures { λ r. ⌜ r ≡ due-now self half ⌝ }
-    {
-        let Due::At(n) = self else {
-            return false;
-        };
-        n == half
-    }
+// Whether a received word waits for a data cell.
+fn in_data(rx: Rx) -> bool
+    requires { ⌜ Placed rx ⌝ }
+    ensures { λ r. ⌜ r ≡ in-data rx ⌝ }
+{
+    let data = rx.format.data as i8;
+    rx.position < data
+}
 
-    // The half planned, or else this one.
-    fn or_at(self, half: u32) -> Due
-        ensures { λ r. ⌜ r ≡ due-or self half ⌝ }
-    {
-        let Due::At(n) = self else {
-            return Due::At(half);
-        };
-        Due::At(n)
+// Whether it waits for the parity cell.
+fn at_parity(rx: Rx) -> bool
+    requires { ⌜ Placed rx ⌝ }
+    ensures { λ r. ⌜ r ≡ at-parity rx ⌝ }
+{
+    let data = rx.format.data as i8;
+    (rx.position == data) & rx.format.parity
+}
+
+// The received value with the present cell's bit. A position is a shift only from zero.
+fn with_bit(rx: Rx, high: bool) -> u8
+    requires { ⌜ Shiftable rx ⌝ }
+    ensures { λ r. ⌜ r ≡ cond high (bitOr (rx .value) (bit-at (rx .position))) (rx .value) ⌝ }
+{
+    if high {
+        return rx.value | (1 << (rx.position as u8));
+    }
+    rx.value
+}
+
+// The start cell begins, in the present format.
+fn started(rx: Rx, now: Format, half: u32) -> Rx
+    requires { ⌜ Bounded now × (half ≤ limit) ⌝ }
+    ensures { λ r. ⌜ r ≡ started now half rx ⌝ }
+{
+    Rx {
+        format: now,
+        value: rx.value,
+        position: -1,
+        parity: rx.parity,
+        error: rx.error,
+        next: Due::At(half + now.half_bit / 2 - 1),
     }
 }
 
-impl Holding {
-    fn full(self) -> bool
-        ensures { λ r. ⌜ r ≡ holds self ⌝ }
-    {
-        let Holding::Byte(_) = self else {
-            return false;
-        };
-        true
+// The next cell, sampled one cell length later.
+fn stepped(rx: Rx, half: u32, value: u8, parity: bool, error: u8) -> Rx
+    requires { ⌜ Placed rx × (half ≤ limit) ⌝ }
+    ensures { λ r. ⌜ r ≡ stepped half (rx .position) value parity error rx ⌝ }
+{
+    let format = rx.format;
+    Rx {
+        format,
+        value,
+        position: rx.position + 1,
+        parity,
+        error,
+        next: Due::At(half + format.half_bit),
     }
 }
 
-impl Character {
-    // The level of a cell of the word.
-    fn level(self, cell: u8) -> bool
-        requires { ⌜ cell ≤ 15 ⌝ }
-        ensures { λ r. ⌜ r ≡ level self cell ⌝ }
-    {
-        self.word & (1 << cell) != 0
+// A bit of a clocked word.
+fn bit_taken(rx: Rx, high: bool) -> Rx
+    requires { ⌜ Placed rx × (rx .format .synchronous ≡ true) ⌝ }
+    ensures { λ r. ⌜ r ≡ bit-taken high rx ⌝ }
+{
+    let value = with_bit(rx, high);
+    let format = rx.format;
+    let next = rx.next;
+    Rx {
+        format,
+        value,
+        position: rx.position + 1,
+        parity: rx.parity,
+        error: rx.error,
+        next,
     }
 }
 
-impl Tx {
-    // The half on which the sender acts next.
-    fn next(self) -> Due
-        ensures { λ r. ⌜ r ≡ tx-next self ⌝ }
-    {
-        match self {
-            Tx::Off => Due::Never,
-            Tx::Blocked { character: _ } => Due::Never,
-            Tx::Mark { next } => Due::At(next),
-            Tx::Start { character: _, next } => Due::At(next),
-            Tx::Data {
-                character: _,
-                cell: _,
-                next,
-            } => next,
-            Tx::Tail { loaded: _, next } => next,
+// What a sample makes of a start-stop word.
+fn sampled(rx: Rx, now: Format, high: bool, half: u32) -> Sampled
+    requires { ⌜ Placed rx × (rx .format .synchronous ≡ false) × Bounded now × (half ≤ limit) ⌝ }
+    ensures { λ r. ⌜ r ≡ sample now high half rx ⌝ }
+{
+    if rx.falling() {
+        if high | now.synchronous {
+            return Sampled::Dropped;
         }
+        return Sampled::Onward(started(rx, now, half));
     }
-
-    // Whether a clocked word is being sent.
-    fn synchronous(self) -> bool
-        ensures { λ r. ⌜ r ≡ tx-clocked self ⌝ }
-    {
-        match self {
-            Tx::Off => false,
-            Tx::Blocked { character: _ } => false,
-            Tx::Mark { next: _ } => false,
-            Tx::Start {
-                character: _,
-                next: _,
-            } => false,
-            Tx::Data {
-                character: _,
-                cell: _,
-                next,
-            } => next.absent(),
-            Tx::Tail { loaded: _, next } => next.absent(),
-        }
-    }
-}
-
-impl Rx {
-    // The position is touched here only: everything else asks these.
-    fn falling(self) -> bool
-        ensures { λ r. ⌜ r ≡ falling self ⌝ }
-    {
-        self.position == -2
-    }
-
-    fn starting(self) -> bool
-        ensures { λ r. ⌜ r ≡ starting self ⌝ }
-    {
-        self.position == -1
-    }
-
-    fn in_data(self) -> bool
-        requires { ⌜ Placed self ⌝ }
-        ensures { λ r. ⌜ r ≡ in-data self ⌝ }
-    {
-        let data = self.format.data as i8;
-        self.position < data
-    }
-
-    fn at_parity(self) -> bool
-        requires { ⌜ Placed self ⌝ }
-        ensures { λ r. ⌜ r ≡ at-parity self ⌝ }
-    {
-        let data = self.format.data as i8;
-        (self.position == data) & self.format.parity
-    }
-
-    fn last_bit(self) -> bool
-        ensures { λ r. ⌜ r ≡ last-bit (self .position) ⌝ }
-    {
-        self.position == 7
-    }
-
-    // The received value with the present cell's bit. A position is a shift only from zero.
-    fn with_bit(self, high: bool) -> u8
-        requires { ⌜ Shiftable self ⌝ }
-        ensures { λ r. ⌜ r ≡ cond high (bitOr (self .value) (bit-at (self .position))) (self .value) ⌝ }
-    {
+    if rx.starting() {
         if high {
-            return self.value | (1 << (self.position as u8));
+            return Sampled::Dropped;
         }
-        self.value
+        return Sampled::Onward(stepped(rx, half, rx.value, rx.parity, rx.error));
     }
-
-    // A new word, which waits for the next falling phase.
-    fn armed(format: Format, next: u32) -> Rx
-        ensures { λ r. ⌜ r ≡ armed format next ⌝ }
-    {
-        Rx {
-            format,
-            value: 0,
-            position: -2,
-            parity: false,
-            error: 0,
-            next: Due::At(next),
-        }
+    if in_data(rx) {
+        let value = with_bit(rx, high);
+        return Sampled::Onward(stepped(rx, half, value, rx.parity ^ high, rx.error));
     }
-
-    // A new word of clocked form.
-    fn clocked(format: Format) -> Rx
-        ensures { λ r. ⌜ r ≡ clocked-word format ⌝ }
-    {
-        Rx {
-            format,
-            value: 0,
-            position: 0,
-            parity: false,
-            error: 0,
-            next: Due::Never,
-        }
+    if at_parity(rx) {
+        let error = rx.parity_error(high);
+        return Sampled::Onward(stepped(rx, half, rx.value, rx.parity, error));
     }
-
-    // The start cell begins, in the present format.
-    fn started(self, now: Format, half: u32) -> Rx
-        requires { ⌜ Bounded now × (half ≤ limit) ⌝ }
-        ensures { λ r. ⌜ r ≡ started now half self ⌝ }
-    {
-        Rx {
-            format: now,
-            value: self.value,
-            position: -1,
-            parity: self.parity,
-            error: self.error,
-            next: Due::At(half + now.half_bit / 2 - 1),
-        }
-    }
-
-    // The next cell, sampled one cell length later.
-    fn stepped(self, half: u32, value: u8, parity: bool, error: u8) -> Rx
-        requires { ⌜ Placed self × (half ≤ limit) ⌝ }
-        ensures { λ r. ⌜ r ≡ stepped half (self .position) value parity error self ⌝ }
-    {
-        let format = self.format;
-        Rx {
-            format,
-            value,
-            position: self.position + 1,
-            parity,
-            error,
-            next: Due::At(half + format.half_bit),
-        }
-    }
-
-    fn parity_error(self, high: bool) -> u8
-        ensures { λ r. ⌜ r ≡ cond (differ high (differ (self .parity) (self .format .odd))) (bitOr (self .error) 8) (self .error) ⌝ }
-    {
-        let odd = self.format.odd;
-        if high ^ (self.parity ^ odd) {
-            return self.error | 8;
-        }
-        self.error
-    }
-
-    fn framing_error(self, high: bool) -> u8
-        ensures { λ r. ⌜ r ≡ cond high (self .error) (bitOr (self .error) 0x10) ⌝ }
-    {
-        if high {
-            return self.error;
-        }
-        self.error | 0x10
-    }
-
-    // The first stop cell.
-    fn stopped(mut self, high: bool) -> Rx
-        ensures { λ r. ⌜ r ≡ stopped high self ⌝ }
-    {
-        let error = self.framing_error(high);
-        self.error = error;
-        self
-    }
-
-    // A bit of a clocked word.
-    fn bit_taken(self, high: bool) -> Rx
-        requires { ⌜ Placed self × (self .format .synchronous ≡ true) ⌝ }
-        ensures { λ r. ⌜ r ≡ bit-taken high self ⌝ }
-    {
-        let value = self.with_bit(high);
-        let format = self.format;
-        let next = self.next;
-        Rx {
-            format,
-            value,
-            position: self.position + 1,
-            parity: self.parity,
-            error: self.error,
-            next,
-        }
-    }
-
-    // What a sample makes of a start-stop word.
-    fn sampled(self, now: Format, high: bool, half: u32) -> Sampled
-        requires { ⌜ Placed self × (self .format .synchronous ≡ false) × Bounded now × (half ≤ limit) ⌝ }
-        ensures { λ r. ⌜ r ≡ sample now high half self ⌝ }
-    {
-        if self.falling() {
-            if high | now.synchronous {
-                return Sampled::Dropped;
-            }
-            return Sampled::Onward(self.started(now, half));
-        }
-        if self.starting() {
-            if high {
-                return Sampled::Dropped;
-            }
-            return Sampled::Onward(self.stepped(half, self.value, self.parity, self.error));
-        }
-        if self.in_data() {
-            let value = self.with_bit(high);
-            return Sampled::Onward(self.stepped(half, value, self.parity ^ high, self.error));
-        }
-        if self.at_parity() {
-            let error = self.parity_error(high);
-            return Sampled::Onward(self.stepped(half, self.value, self.parity, error));
-        }
-        Sampled::Whole(self.stopped(high))
-    }
+    Sampled::Whole(rx.stopped(high))
 }
 
 impl Preloaded {
@@ -545,12 +326,6 @@ impl Port {
         let running = self.running();
         let external = self.external();
         running & !external
-    }
-
-    fn error_free(self) -> bool
-        ensures { λ r. ⌜ r ≡ error-free self ⌝ }
-    {
-        !(self.ssr & 0x38 != 0)
     }
 
     // A field that is an enum is not stored to: the struct is made anew.
@@ -715,7 +490,6 @@ impl Port {
     fn boundary(self, span: u32) -> u32
         requires { ⌜ (self .half ≤ limit) × (16 ≤ span) × (span ≤ 32) ⌝ }
         ensures { λ r. ⌜ r ≡ boundary self span ⌝ }
-        ensures near { λ r. ⌜ r ≤ self .half + span ⌝ }
     {
         let past = self.half % span;
         if (past == 0) & self.edge {
@@ -756,14 +530,13 @@ impl Port {
 
     // ---- receive line
     // RXD now shows this level.
-    fn receive_input(self, level: bool) -> Port
+    fn receive_input(mut self, level: bool) -> Port
         requires { ⌜ self .half ≤ limit ⌝ }
         ensures { λ r. ⌜ r ≡ receive-input level self ⌝ }
     {
         if level != self.input {
-            let mut port = self;
-            port.input = level;
-            return port.arm_receive();
+            self.input = level;
+            return self.arm_receive();
         }
         self
     }
@@ -781,7 +554,6 @@ impl Port {
     // What a reset keeps of the port before.
     fn carried(mut self, spcr: u8, old: Port) -> Port
         ensures { λ r. ⌜ r ≡ carried spcr old self ⌝ }
-        ensures kept { λ r. ⌜ r .half ≡ self .half ⌝ }
     {
         self.spcr = spcr;
         self.input = old.input;
@@ -793,7 +565,6 @@ impl Port {
 
     fn reset_registers(self, spcr: u8) -> Port
         ensures { λ r. ⌜ r ≡ reset-registers spcr self ⌝ }
-        ensures kept { λ r. ⌜ r .half ≡ 0 ⌝ }
     {
         Port::fresh().carried(spcr, self)
     }
@@ -801,7 +572,6 @@ impl Port {
     // The module going off is the module's reset, also where reset mode goes on.
     fn reset(self, module: bool, reset_mode: bool) -> Port
         ensures { λ r. ⌜ r ≡ reset «module» «reset_mode» self ⌝ }
-        ensures kept { λ r. ⌜ r .half ≤ self .half ⌝ }
     {
         if !module & self.module {
             return self.reset_registers(0xc0);
@@ -812,41 +582,28 @@ impl Port {
         self
     }
 
-    fn with_power(mut self, module: bool, main: bool, sub: bool, reset_mode: bool) -> Port
-        ensures { λ r. ⌜ r ≡ with-power self «module» main sub «reset_mode» ⌝ }
-    {
-        self.module = module;
-        self.main = main;
-        self.sub = sub;
-        self.reset_mode = reset_mode;
-        self
-    }
-
     fn powered(self, module: bool, main: bool, sub: bool, reset_mode: bool) -> Port
         requires { ⌜ self .half ≤ limit ⌝ }
         ensures { λ r. ⌜ r ≡ set-power «module» main sub «reset_mode» self ⌝ }
     {
-        self.reset(module, reset_mode)
-            .with_power(module, main, sub, reset_mode)
-            .refresh_sync_clock()
+        let mut port = self.reset(module, reset_mode);
+        port.module = module;
+        port.main = main;
+        port.sub = sub;
+        port.reset_mode = reset_mode;
+        port.refresh_sync_clock()
     }
 
     // ---- pins and interrupt
-    // Whether a cell of start-stop form is in its second half.
-    fn second_half(self) -> bool
-        ensures { λ r. ⌜ r ≡ leb (format-of self .«half_bit» / 2) (self .half % format-of self .«half_bit») ⌝ }
-    {
-        let span = self.format().half_bit;
-        self.half % span >= span / 2
-    }
-
+    // In start-stop form high in the second half of each cell.
     fn clock_level(self) -> bool
         ensures { λ r. ⌜ r ≡ clock-level self ⌝ }
     {
         if self.smr & 0x80 != 0 {
             return self.sck;
         }
-        self.second_half()
+        let span = self.format().half_bit;
+        self.half % span >= span / 2
     }
 
     fn clock_drive(self) -> Clock
@@ -920,13 +677,6 @@ impl Port {
         self
     }
 
-    // Bits that are seen and written 0 are cleared, of 0xf8.
-    fn cleared(self, v: u8) -> u8
-        ensures { λ r. ⌜ r ≡ cleared v self ⌝ }
-    {
-        self.ssr & (255 - (self.seen & (255 - v) & 0xf8))
-    }
-
     fn sender_off(mut self) -> Port
         ensures { λ r. ⌜ r ≡ sender-off self ⌝ }
     {
@@ -945,20 +695,14 @@ impl Port {
         self.with_tx(Tx::Mark { next })
     }
 
-    // Whether TE, newly set, begins with mark.
-    fn marks(self, was: bool) -> bool
-        ensures { λ r. ⌜ r ≡ (not was && not (format-of self .synchronous)) ⌝ }
-    {
-        let format = self.format();
-        !was & !format.synchronous
-    }
-
+    // TE newly set begins with mark in start-stop form.
     fn scr_tx(self, was: bool, v: u8) -> Port
         requires { ⌜ self .half ≤ limit ⌝ }
         ensures { λ r. ⌜ r ≡ scr-tx was v self ⌝ }
     {
         if v & 0x20 != 0 {
-            if self.marks(was) {
+            let format = self.format();
+            if !was & !format.synchronous {
                 return self.sender_on();
             }
             return self;
@@ -966,132 +710,91 @@ impl Port {
         self.sender_off()
     }
 
-    fn scr_rx(self, v: u8) -> Port
-        ensures { λ r. ⌜ r ≡ scr-rx v self ⌝ }
-    {
-        if v & 0x10 != 0 {
-            return self;
-        }
-        self.with_rx(Receiver::Idle)
-    }
-
-    fn write_scr(self, v: u8) -> Port
+    fn write_scr(mut self, v: u8) -> Port
         requires { ⌜ self .half ≤ limit ⌝ }
         ensures { λ r. ⌜ r ≡ write-scr v self ⌝ }
     {
         let was = self.scr & 0x20 != 0;
-        let mut port = self;
-        port.scr = v & 0xf7;
-        port.scr_tx(was, v).scr_rx(v)
-    }
-
-    fn write_tdr(self, v: u8) -> Port
-        ensures { λ r. ⌜ r ≡ write-tdr v self ⌝ }
-    {
-        let mut port = self;
-        port.tdr = v;
-        if self.scr & 0x20 != 0 {
-            port.ssr = self.ssr & 0x7b;
-            port.seen = self.seen & 0x7b;
-            return port.with_holding(Holding::Byte(v));
-        }
-        port
-    }
-
-    // Whether TDR is taken into the holding place.
-    fn loads(self, ssr: u8) -> bool
-        ensures { λ r. ⌜ r ≡ (not (has ssr 0x80) && not (holds (self .holding))) ⌝ }
-    {
-        let holding = self.holding;
-        let held = holding.full();
-        !(ssr & 0x80 != 0) & !held
-    }
-
-    fn status_with(self, ssr: u8, v: u8) -> Port
-        ensures { λ r. ⌜ r ≡ status-with ssr v self ⌝ }
-    {
-        let mut port = self;
-        port.seen = self.seen & v;
-        if self.scr & 0x20 != 0 {
-            if self.loads(ssr) {
-                port.ssr = ssr & 0xfb;
-                return port.with_holding(Holding::Byte(self.tdr));
-            }
-            port.ssr = ssr;
+        self.scr = v & 0xf7;
+        let port = self.scr_tx(was, v);
+        if v & 0x10 != 0 {
             return port;
         }
-        port.ssr = ssr | 0x80;
-        port
+        port.with_rx(Receiver::Idle)
     }
 
-    fn status_write(self, v: u8) -> Port
+    fn write_tdr(mut self, v: u8) -> Port
+        ensures { λ r. ⌜ r ≡ write-tdr v self ⌝ }
+    {
+        self.tdr = v;
+        if self.scr & 0x20 != 0 {
+            self.ssr = self.ssr & 0x7b;
+            self.seen = self.seen & 0x7b;
+            return self.with_holding(Holding::Byte(v));
+        }
+        self
+    }
+
+    // Bits that are seen and written 0 are cleared, of 0xf8. With nothing held, a cleared TDRE takes TDR into the holding place.
+    fn status_write(mut self, v: u8) -> Port
         ensures { λ r. ⌜ r ≡ status-write v self ⌝ }
     {
-        self.status_with(self.cleared(v), v)
+        let ssr = self.ssr & (255 - (self.seen & (255 - v) & 0xf8));
+        self.seen = self.seen & v;
+        if self.scr & 0x20 != 0 {
+            let holding = self.holding;
+            let held = holding.full();
+            if !(ssr & 0x80 != 0) & !held {
+                self.ssr = ssr & 0xfb;
+                return self.with_holding(Holding::Byte(self.tdr));
+            }
+            self.ssr = ssr;
+            return self;
+        }
+        self.ssr = ssr | 0x80;
+        self
     }
 
-    fn stored(self, a: u32, v: u8) -> Port
+    fn stored(mut self, a: u32, v: u8) -> Port
         requires { ⌜ self .half ≤ limit ⌝ }
         ensures { λ r. ⌜ r ≡ stored a v self ⌝ }
     {
-        let mut port = self;
         match a {
             0xff91 => {
-                port.spcr = v & 0x13 | 0xc0;
-                port
+                self.spcr = v & 0x13 | 0xc0;
+                self
             }
             0xff98 => {
-                port.smr = v;
-                port
+                self.smr = v;
+                self
             }
             0xff99 => {
-                port.brr = v;
-                port
+                self.brr = v;
+                self
             }
             0xff9a => self.write_scr(v),
             0xff9b => self.write_tdr(v),
             0xff9c => self.status_write(v),
             0xff9d => self,
             0xffa6 => {
-                port.semr = v & 8;
-                port
+                self.semr = v & 8;
+                self
             }
             _ => {
-                port.ircr = v & 0xf0;
-                port
+                self.ircr = v & 0xf0;
+                self
             }
         }
     }
 
-    // Whether the external clock is newly chosen.
-    fn connects(self, was: bool) -> bool
-        ensures { λ r. ⌜ r ≡ (not was && external self) ⌝ }
-    {
-        let external = self.external();
-        !was & external
-    }
-
-    // The phase is then the clock pin's.
-    fn connect(self, was: bool) -> Port
+    // The external clock newly chosen, the phase is the clock pin's.
+    fn connect(mut self, was: bool) -> Port
         ensures { λ r. ⌜ r ≡ connect was self ⌝ }
     {
-        if self.connects(was) {
-            let mut port = self;
-            port.high = self.input_clock;
-            return port.with_sync_next(Due::Never);
-        }
-        self
-    }
-
-    fn fill_tail(self, loaded: Loaded, next: Due) -> Port
-        ensures { λ r. ⌜ r ≡ fill-tail loaded next self ⌝ }
-    {
-        let Loaded::Nothing = loaded else {
-            return self;
-        };
-        let holding = self.holding;
-        if holding.full() {
-            return self.preload().tailed(next);
+        let external = self.external();
+        if !was & external {
+            self.high = self.input_clock;
+            return self.with_sync_next(Due::Never);
         }
         self
     }
@@ -1101,21 +804,17 @@ impl Port {
         ensures { λ r. ⌜ r ≡ load-tail self ⌝ }
     {
         let tx = self.tx;
-        match tx {
-            Tx::Off => self,
-            Tx::Blocked { character: _ } => self,
-            Tx::Mark { next: _ } => self,
-            Tx::Start {
-                character: _,
-                next: _,
-            } => self,
-            Tx::Data {
-                character: _,
-                cell: _,
-                next: _,
-            } => self,
-            Tx::Tail { loaded, next } => self.fill_tail(loaded, next),
+        let Tx::Tail { loaded, next } = tx else {
+            return self;
+        };
+        let Loaded::Nothing = loaded else {
+            return self;
+        };
+        let holding = self.holding;
+        if holding.full() {
+            return self.preload().tailed(next);
         }
+        self
     }
 
     // What follows every store.
@@ -1200,7 +899,7 @@ impl Port {
             });
         }
         let next = Due::At(self.half + character.format.half_bit);
-        let first = character.level(0);
+        let first = character.word & 1 != 0;
         self.drive(first).with_tx(Tx::Data {
             character,
             cell: 0,
@@ -1208,51 +907,28 @@ impl Port {
         })
     }
 
-    fn start_at(self, character: Character, next: u32) -> Port
+    // A start-stop word begins where a cell can.
+    fn start_at_boundary(self, character: Character) -> Port
         requires { ⌜ (self .half ≤ limit) × Bounded (character .format) ⌝ }
-        ensures { λ r. ⌜ r ≡ start-at self character next ⌝ }
+        ensures { λ r. ⌜ r ≡ start-at self character (boundary self (character .format .«half_bit»)) ⌝ }
     {
+        let next = self.boundary(character.format.half_bit);
         if next == self.half {
             return self.begin(character);
         }
         self.with_tx(Tx::Start { character, next })
     }
 
-    fn start_at_boundary(self, character: Character) -> Port
-        requires { ⌜ (self .half ≤ limit) × Bounded (character .format) ⌝ }
-        ensures { λ r. ⌜ r ≡ start-at self character (boundary self (character .format .«half_bit»)) ⌝ }
-    {
-        let next = self.boundary(character.format.half_bit);
-        self.start_at(character, next)
-    }
-
-    // Whether a held byte is taken by an absent sender.
-    fn takes_held(self) -> bool
-        ensures { λ r. ⌜ r ≡ (has (self .scr) 0x20 && (holds (self .holding) && (not (format-of self .synchronous) || error-free self))) ⌝ }
-    {
-        let format = self.format();
-        let holding = self.holding;
-        let held = holding.full();
-        let error_free = self.error_free();
-        (self.scr & 0x20 != 0) & (held & (!format.synchronous | error_free))
-    }
-
+    // A held byte is taken by an absent sender; in clocked form not while an error flag stands.
     fn load_held(self) -> Port
         requires { ⌜ self .half ≤ limit ⌝ }
         ensures { λ r. ⌜ r ≡ try-start-on Off self ⌝ }
     {
-        if self.takes_held() {
+        let format = self.format();
+        let holding = self.holding;
+        let held = holding.full();
+        if (self.scr & 0x20 != 0) & (held & (!format.synchronous | !(self.ssr & 0x38 != 0))) {
             return self.preload().started();
-        }
-        self
-    }
-
-    fn unblock(self, character: Character) -> Port
-        requires { ⌜ (self .half ≤ limit) × Bounded (character .format) ⌝ }
-        ensures { λ r. ⌜ r ≡ try-start-on (Blocked character) self ⌝ }
-    {
-        if self.error_free() {
-            return self.begin(character);
         }
         self
     }
@@ -1264,18 +940,23 @@ impl Port {
         let tx = self.tx;
         match tx {
             Tx::Off => self.load_held(),
-            Tx::Blocked { character } => self.unblock(character),
-            Tx::Mark { next: _ } => self,
-            Tx::Start {
+            Tx::Blocked { character } => {
+                if self.ssr & 0x38 != 0 {
+                    return self;
+                }
+                self.begin(character)
+            }
+            Tx::Mark { next: _ }
+            | Tx::Start {
                 character: _,
                 next: _,
-            } => self,
-            Tx::Data {
+            }
+            | Tx::Data {
                 character: _,
                 cell: _,
                 next: _,
-            } => self,
-            Tx::Tail { loaded: _, next: _ } => self,
+            }
+            | Tx::Tail { loaded: _, next: _ } => self,
         }
     }
 
@@ -1288,25 +969,19 @@ impl Port {
         self.with_tx(Tx::Off)
     }
 
-    // A clocked word does not begin while an error flag stands.
-    fn blocks(self, character: Character) -> bool
-        ensures { λ r. ⌜ r ≡ (character .format .synchronous && not (error-free self)) ⌝ }
-    {
-        let error_free = self.error_free();
-        character.format.synchronous & !error_free
-    }
-
+    // The tail ends. A clocked word does not begin while an error flag stands.
     fn finish_tail(self, loaded: Loaded) -> Port
         requires { ⌜ (self .half ≤ limit) × LoadedBounded loaded ⌝ }
         ensures { λ r. ⌜ r ≡ finish-tail loaded self ⌝ }
     {
+        let port = self.one_sent();
         let Loaded::Next(character) = loaded else {
-            return self.one_sent().try_start();
+            return port.try_start();
         };
-        if self.blocks(character) {
-            return self.one_sent().with_tx(Tx::Blocked { character });
+        if character.format.synchronous & (self.ssr & 0x38 != 0) {
+            return port.with_tx(Tx::Blocked { character });
         }
-        self.one_sent().begin(character)
+        port.begin(character)
     }
 
     // A cell of a start-stop word.
@@ -1314,7 +989,7 @@ impl Port {
         requires { ⌜ (self .half ≤ limit) × Bounded (character .format) × (cell ≤ 10) ⌝ }
         ensures { λ r. ⌜ r ≡ next-cell character cell self ⌝ }
     {
-        let port = self.drive(character.level(cell));
+        let port = self.drive(level(character, cell));
         let format = character.format;
         if cell as u32 == format.stop() {
             let next = Due::At(self.half + format.stops as u32 * format.half_bit);
@@ -1376,8 +1051,7 @@ impl Port {
     {
         let format = self.format();
         let level = self.input_level();
-        let error_free = self.error_free();
-        (self.scr & 0x10 != 0) & (error_free & (!format.synchronous & !level))
+        (self.scr & 0x10 != 0) & (!(self.ssr & 0x38 != 0) & (!format.synchronous & !level))
     }
 
     fn armed(self) -> Port
@@ -1413,20 +1087,19 @@ impl Port {
     }
 
     // A whole word, the receiver being empty again.
-    fn complete_receive(self, rx: Rx) -> Port
+    fn complete_receive(mut self, rx: Rx) -> Port
         ensures { λ r. ⌜ r ≡ complete-receive self rx ⌝ }
     {
-        let mut port = self;
         if self.ssr & 0x40 != 0 {
-            port.ssr = self.ssr | (rx.error | 0x20);
-            return port;
+            self.ssr = self.ssr | (rx.error | 0x20);
+            return self;
         }
         if rx.error == 0 {
             return self.received_word(rx.value);
         }
-        port.rdr = rx.value;
-        port.ssr = self.ssr | rx.error;
-        port
+        self.rdr = rx.value;
+        self.ssr = self.ssr | rx.error;
+        self
     }
 
     fn after_sample(self, sampled: Sampled) -> Port
@@ -1457,32 +1130,23 @@ impl Port {
         }
         let format = self.format();
         let level = self.input_level();
-        self.after_sample(rx.sampled(format, level, self.half))
+        self.after_sample(sampled(rx, format, level, self.half))
     }
 
     // ---- clocked form
-    fn rx_clocked(self) -> bool
-        ensures { λ r. ⌜ r ≡ rx-clocked (self .rx) ⌝ }
-    {
-        let receiver = self.rx;
-        let Receiver::Busy(rx) = receiver else {
-            return false;
-        };
-        rx.format.synchronous
-    }
-
     fn sync_needed(self) -> bool
         ensures { λ r. ⌜ r ≡ sync-needed self ⌝ }
     {
         let tx = self.tx;
         let sends = tx.synchronous();
         let format = self.format();
-        let receives = self.rx_clocked();
-        let error_free = self.error_free();
-        sends | ((self.scr & 0x10 != 0) & (error_free & (format.synchronous | receives)))
+        let receiver = self.rx;
+        let receives = receiver.synchronous();
+        sends
+            | ((self.scr & 0x10 != 0) & (!(self.ssr & 0x38 != 0) & (format.synchronous | receives)))
     }
 
-    fn refresh_sync_clock(self) -> Port
+    fn refresh_sync_clock(mut self) -> Port
         requires { ⌜ self .half ≤ limit ⌝ }
         ensures { λ r. ⌜ r ≡ refresh-sync-clock self ⌝ }
     {
@@ -1493,9 +1157,8 @@ impl Port {
             let next = self.sync_next;
             return self.with_sync_next(next.or_at(self.half + 2));
         }
-        let mut port = self;
-        port.sck = true;
-        port.with_sync_next(Due::Never)
+        self.sck = true;
+        self.with_sync_next(Due::Never)
     }
 
     fn take_bit(self, rx: Rx) -> Port
@@ -1503,42 +1166,27 @@ impl Port {
         ensures { λ r. ⌜ r ≡ take-bit self rx ⌝ }
     {
         let level = self.input_level();
-        let taken = rx.bit_taken(level);
+        let taken = bit_taken(rx, level);
         if rx.last_bit() {
             return self.with_rx(Receiver::Idle).complete_receive(taken);
         }
         self.with_rx(Receiver::Busy(taken))
     }
 
-    // Clocked reception waits while an error flag stands.
-    fn receives(self) -> bool
-        ensures { λ r. ⌜ r ≡ (has (self .scr) 0x10 && error-free self) ⌝ }
-    {
-        let error_free = self.error_free();
-        (self.scr & 0x10 != 0) & error_free
-    }
-
-    // A clocked word goes on, or begins.
+    // A clocked word goes on, or begins; it waits while an error flag stands.
     fn receive_bit(self) -> Port
         requires { ⌜ PlacedIn (self .rx) ⌝ }
         ensures { λ r. ⌜ r ≡ receive-bit self ⌝ }
     {
-        if self.receives() {
-            return self.receive_bit_on();
-        }
-        self
-    }
-
-    fn receive_bit_on(self) -> Port
-        requires { ⌜ PlacedIn (self .rx) ⌝ }
-        ensures { λ r. ⌜ r ≡ receive-bit-on (self .rx) self ⌝ }
-    {
-        let receiver = self.rx;
-        let Receiver::Busy(rx) = receiver else {
-            return self.first_bit();
-        };
-        if rx.format.synchronous {
-            return self.take_bit(rx);
+        if (self.scr & 0x10 != 0) & !(self.ssr & 0x38 != 0) {
+            let receiver = self.rx;
+            let Receiver::Busy(rx) = receiver else {
+                return self.first_bit();
+            };
+            if rx.format.synchronous {
+                return self.take_bit(rx);
+            }
+            return self;
         }
         self
     }
@@ -1549,16 +1197,9 @@ impl Port {
     {
         let format = self.format();
         if format.synchronous {
-            return self.first_bit_in(format);
+            return self.take_bit(Rx::clocked(format));
         }
         self
-    }
-
-    fn first_bit_in(self, format: Format) -> Port
-        requires { ⌜ Bounded format × (format .synchronous ≡ true) ⌝ }
-        ensures { λ r. ⌜ r ≡ take-bit self (clocked-word format) ⌝ }
-    {
-        self.take_bit(Rx::clocked(format))
     }
 
     // A tail of a clocked word ends.
@@ -1567,26 +1208,13 @@ impl Port {
         ensures { λ r. ⌜ r ≡ tail-ends self ⌝ }
     {
         let tx = self.tx;
-        match tx {
-            Tx::Off => self,
-            Tx::Blocked { character: _ } => self,
-            Tx::Mark { next: _ } => self,
-            Tx::Start {
-                character: _,
-                next: _,
-            } => self,
-            Tx::Data {
-                character: _,
-                cell: _,
-                next: _,
-            } => self,
-            Tx::Tail { loaded, next } => {
-                let Due::Never = next else {
-                    return self;
-                };
-                self.finish_tail(loaded)
-            }
-        }
+        let Tx::Tail { loaded, next } = tx else {
+            return self;
+        };
+        let Due::Never = next else {
+            return self;
+        };
+        self.finish_tail(loaded)
     }
 
     // A bit of a clocked word.
@@ -1594,7 +1222,7 @@ impl Port {
         requires { ⌜ cell ≤ 9 ⌝ }
         ensures { λ r. ⌜ r ≡ bit-out character cell self ⌝ }
     {
-        let port = self.drive(character.level(cell));
+        let port = self.drive(level(character, cell));
         if cell == 7 {
             return port.preload().tailed(Due::Never);
         }
@@ -1610,26 +1238,18 @@ impl Port {
         ensures { λ r. ⌜ r ≡ shift-out self ⌝ }
     {
         let tx = self.tx;
-        match tx {
-            Tx::Off => self,
-            Tx::Blocked { character: _ } => self,
-            Tx::Mark { next: _ } => self,
-            Tx::Start {
-                character: _,
-                next: _,
-            } => self,
-            Tx::Data {
-                character,
-                cell,
-                next,
-            } => {
-                let Due::Never = next else {
-                    return self;
-                };
-                self.bit_out(character, cell)
-            }
-            Tx::Tail { loaded: _, next: _ } => self,
-        }
+        let Tx::Data {
+            character,
+            cell,
+            next,
+        } = tx
+        else {
+            return self;
+        };
+        let Due::Never = next else {
+            return self;
+        };
+        self.bit_out(character, cell)
     }
 
     // An edge of the clock, to this level.
@@ -1701,31 +1321,19 @@ impl Port {
         self.advance_tx().advance_rx().arm_receive()
     }
 
-    // Whether a start-stop receiver is due now.
-    fn rx_due(self) -> bool
-        ensures { λ r. ⌜ r ≡ rx-due-on (self .rx) (self .half) ⌝ }
-    {
-        let receiver = self.rx;
-        let Receiver::Busy(rx) = receiver else {
-            return false;
-        };
-        let next = rx.next;
-        let due = next.now(self.half);
-        !rx.format.synchronous & due
-    }
-
     fn sync(self) -> Port
         requires { ⌜ Ready (self .half) self ⌝ }
         ensures { λ r. ⌜ r ≡ sync self ⌝ }
     {
-        if self.rx_due() {
+        let receiver = self.rx;
+        if receiver.due(self.half) {
             return self.process_basic().refresh_sync_clock();
         }
         self
     }
 
     // The clock of clocked form toggles, at its due half.
-    fn clocked_edge(self) -> Port
+    fn clocked_edge(mut self) -> Port
         requires { ⌜ Ready (self .half) self ⌝ }
         ensures { λ r. ⌜ r ≡ clocked-edge self ⌝ }
     {
@@ -1736,14 +1344,9 @@ impl Port {
         if edge != self.half {
             return self;
         }
-        self.toggled().sync_edge(!self.sck)
-    }
-
-    fn toggled(mut self) -> Port
-        ensures { λ r. ⌜ r ≡ with-clock self Never (not (self .sck)) ⌝ }
-    {
-        self.sck = !self.sck;
-        self.with_sync_next(Due::Never)
+        let high = !self.sck;
+        self.sck = high;
+        self.with_sync_next(Due::Never).sync_edge(high)
     }
 
     fn advance(self) -> Port
@@ -1786,141 +1389,6 @@ impl Port {
 }
 
 // ---- the field test
-// Whether a due half is 1 to 448 above the half count. In 64 bits, since no half count is ruled out yet.
-fn due_at(half: u32, n: u32) -> bool
-    ensures { λ r. ⌜ r ≡ due-at half n ⌝ }
-{
-    (half < n) & (n as u64 <= half as u64 + 448)
-}
-
-impl Due {
-    fn valid(self, half: u32) -> bool
-        ensures { λ r. ⌜ r ≡ due-either self half ⌝ }
-    {
-        let Due::At(n) = self else {
-            return true;
-        };
-        due_at(half, n)
-    }
-
-    // Present exactly for a start-stop word.
-    fn valid_for(self, synchronous: bool, half: u32) -> bool
-        ensures { λ r. ⌜ r ≡ due-by self synchronous half ⌝ }
-    {
-        let Due::At(n) = self else {
-            return synchronous;
-        };
-        let ahead = due_at(half, n);
-        !synchronous & ahead
-    }
-}
-
-impl Character {
-    fn valid(self) -> bool
-        ensures { λ r. ⌜ r ≡ character-valid self ⌝ }
-    {
-        let format = self.format;
-        format.holds(self.word)
-    }
-
-    fn cell_valid(self, cell: u8) -> bool
-        ensures { λ r. ⌜ r ≡ cell-valid (self .format) cell ⌝ }
-    {
-        let format = self.format;
-        if format.synchronous {
-            return cell < 8;
-        }
-        (cell as u32) < format.stop()
-    }
-
-    fn data_valid(self, cell: u8, next: Due, half: u32) -> bool
-        ensures { λ r. ⌜ r ≡ (character-valid self && (cell-valid (self .format) cell && due-by next (self .format .synchronous) half)) ⌝ }
-    {
-        let formed = self.valid();
-        let placed = self.cell_valid(cell);
-        let due = next.valid_for(self.format.synchronous, half);
-        formed & (placed & due)
-    }
-}
-
-impl Loaded {
-    fn valid(self) -> bool
-        ensures { λ r. ⌜ r ≡ loaded-valid self ⌝ }
-    {
-        let Loaded::Next(character) = self else {
-            return true;
-        };
-        character.valid()
-    }
-}
-
-impl Tx {
-    fn valid(self, half: u32) -> bool
-        ensures { λ r. ⌜ r ≡ tx-valid self half ⌝ }
-    {
-        match self {
-            Tx::Off => true,
-            Tx::Blocked { character } => character.valid(),
-            Tx::Mark { next } => due_at(half, next),
-            Tx::Start { character, next } => {
-                let formed = character.valid();
-                let due = due_at(half, next);
-                formed & due
-            }
-            Tx::Data {
-                character,
-                cell,
-                next,
-            } => character.data_valid(cell, next, half),
-            Tx::Tail { loaded, next } => {
-                let formed = loaded.valid();
-                let due = next.valid(half);
-                formed & due
-            }
-        }
-    }
-}
-
-impl Rx {
-    // -2 to data bits plus parity, or 0 to 7 with clocked form.
-    fn position_valid(self) -> bool
-        requires { ⌜ self .format .«data» ≤ 8 ⌝ }
-        ensures { λ r. ⌜ r ≡ position-valid (self .position) (self .format) ⌝ }
-    {
-        let format = self.format;
-        if format.synchronous {
-            return (self.position >= 0) & (self.position <= 7);
-        }
-        // The first stop cell's number is one more than data bits plus parity.
-        let stop = format.stop() as i8;
-        (self.position >= -2) & (self.position < stop)
-    }
-
-    fn valid(self, half: u32) -> bool
-        ensures { λ r. ⌜ r ≡ word-in-place self half ⌝ }
-    {
-        let format = self.format;
-        if format.valid() {
-            let placed = self.position_valid();
-            let next = self.next;
-            let due = next.valid_for(format.synchronous, half);
-            return placed & (((self.error == 0) | (self.error == 8)) & due);
-        }
-        false
-    }
-}
-
-impl Receiver {
-    fn valid(self, half: u32) -> bool
-        ensures { λ r. ⌜ r ≡ rx-valid self half ⌝ }
-    {
-        let Receiver::Busy(rx) = self else {
-            return true;
-        };
-        rx.valid(half)
-    }
-}
-
 impl Port {
     fn registers_valid(self) -> bool
         ensures { λ r. ⌜ r ≡ registers-valid self ⌝ }
@@ -2074,12 +1542,11 @@ impl Port {
     }
 
     // The clock pin's edge would take the half count past its limit.
-    fn past_limit(self, clock: bool, line: bool) -> bool
-        ensures { λ r. ⌜ r ≡ (pins-change clock line self && (edge-counts clock self && leb limit (self .half))) ⌝ }
+    fn past_limit(self, clock: bool) -> bool
+        ensures { λ r. ⌜ r ≡ (edge-counts clock self && leb limit (self .half)) ⌝ }
     {
-        let changes = self.pins_change(clock, line);
         let counts = self.edge_counts(clock);
-        changes & (counts & (self.half >= LIMIT))
+        counts & (self.half >= LIMIT)
     }
 
     // Kind 5: sets clock pin and receive line.
@@ -2088,10 +1555,10 @@ impl Port {
     {
         if self.valid() {
             if (clock <= 1) & (line <= 1) {
-                if self.past_limit(clock != 0, line != 0) {
-                    return self.refuse(Refusal::Count);
-                }
                 if self.pins_change(clock != 0, line != 0) {
+                    if self.past_limit(clock != 0) {
+                        return self.refuse(Refusal::Count);
+                    }
                     return self.with_pins(clock != 0, line != 0).done(0);
                 }
                 return self.done(0);

@@ -1,6 +1,7 @@
 use Rattle.sci.proofs.Clauses.{advance-rx-on-clauses}
 use Rattle.sci.proofs.Steps.{held, step}
-use Rattle.sci.proofs.Under.{after-sample-of, sample-of}
+use Rattle.words.proofs.Under.{sample-of}
+use Rattle.sci.proofs.Under.{after-sample-of}
 use Rattle.sci.specs.Receiver.{advance-rx}
 use borrow.Author.Needs.{needs}
 use Rattle.sci.proofs.Port.advance_rx.Statement.{statement}

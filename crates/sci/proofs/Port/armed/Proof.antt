@@ -1,5 +1,6 @@
 use Rattle.sci.proofs.Steps.{busy-eq}
-use Rattle.sci.proofs.Under.{armed-of, with-rx-of}
+use Rattle.words.proofs.Under.{armed-of}
+use Rattle.sci.proofs.Under.{with-rx-of}
 use borrow.Author.Needs.{needs}
 use Rattle.sci.proofs.Port.armed.Statement.{statement}
 use Rattle.sci.proofs.Port.armed.Tie as tie

@@ -15,5 +15,4 @@ begin-spec =
     (λ c. search needs)
     (λ c κs. search needs)
     (λ c κs. search needs)
-    (λ c κs. search needs)
     (λ c. search (with-tx-of, drive-of, choose) depth 10))

@@ -1,4 +1,4 @@
-use Rattle.sci.proofs.Same.{same-character}
+use Rattle.words.proofs.Same.{same-character}
 use Rattle.sci.proofs.Steps.{word-now}
 use borrow.Author.Needs.{needs}
 use Rattle.sci.proofs.Port.character.Statement.{statement}

@@ -13,8 +13,8 @@ clocked-edge-spec =
     (tie.spec
     (λ c. search needs)
     (λ c. search needs)
-    (λ c. search (step) depth 10)
-    (λ c. search (step) depth 10)
+    (λ c. search step depth 10)
+    (λ c. search step depth 10)
     (λ c κs. search needs)
     (λ c κs. search (with-clock-ready, needs) depth 10)
     (λ c. search (sync-edge-of, step) depth 10))

@@ -1,4 +1,5 @@
 use Rattle.frame.proofs.Choose.{choose}
+use Rattle.words.proofs.Steps.{bools}
 use Rattle.sci.specs.Registers.{connect}
 use borrow.Author.Needs.{needs}
 use Rattle.sci.proofs.Port.connect.Statement.{statement}
@@ -11,5 +12,5 @@ connect-spec =
     (tie.spec
     (λ c κs. search needs)
     (λ c κs. search needs)
-    (λ c. search (choose) depth 10)
-    (λ c. search (choose) depth 10))
+    (λ c. search (bools, choose) depth 10)
+    (λ c. search (bools, choose) depth 10))

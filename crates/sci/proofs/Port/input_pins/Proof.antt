@@ -1,5 +1,5 @@
-use Rattle.frame.proofs.Choose.{choose, orders}
-use Rattle.sci.proofs.CallLaws.{done-eq, edge-room}
+use Rattle.frame.proofs.Choose.{cond-t, cond-f, flag-t, flag-f}
+use Rattle.sci.proofs.CallLaws.{ands, done-eq, edge-room, pins-set}
 use Rattle.sci.proofs.Checked.{flag-ready}
 use Rattle.sci.specs.Calls.{called, direct}
 use Rattle.sci.specs.Pins.{input-pins}
@@ -15,14 +15,14 @@ input-pins-spec =
     (λ c κs. search needs)
     (λ c κs. search needs)
     (λ c κs. search needs)
-    (λ c. search (orders, choose) depth 10)
     (λ c κs. search needs)
+    (λ c. search (ands, cond-t, flag-t, needs) depth 10)
     (λ c κs. search (flag-ready, edge-room, needs) depth 10)
     (λ c κs. search needs)
-    (λ c. search (done-eq, orders, choose) depth 10)
+    (λ c. search (pins-set, cond-t, flag-t, needs) depth 10)
     (λ c κs. search needs)
-    (λ c. search (done-eq, orders, choose) depth 10)
+    (λ c. search (done-eq, ands, cond-t, cond-f, flag-t, flag-f, needs) depth 10)
     (λ c κs. search needs)
-    (λ c. search (orders, choose) depth 10)
+    (λ c. search (cond-t, cond-f, flag-t, flag-f, needs) depth 10)
     (λ c κs. search needs)
-    (λ c. search (orders, choose) depth 10))
+    (λ c. search (cond-t, cond-f, flag-t, flag-f, needs) depth 10))

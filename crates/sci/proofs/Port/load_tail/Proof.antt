@@ -1,5 +1,6 @@
 use Rattle.frame.proofs.Choose.{choose}
-use Rattle.sci.proofs.Clauses.{load-tail-on-clauses}
+use Rattle.sci.proofs.Clauses.{fill-tail-clauses, load-tail-on-clauses}
+use Rattle.sci.proofs.Steps.{load-tail-else, loads}
 use Rattle.sci.specs.Registers.{load-tail}
 use borrow.Author.Needs.{needs}
 use Rattle.sci.proofs.Port.load_tail.Statement.{statement}
@@ -11,15 +12,12 @@ load-tail-spec =
     tie.close
     (tie.spec
     (λ c. search needs)
+    (λ c. search (load-tail-else, choose) depth 10)
     (λ c. search needs)
     (λ c. search needs)
-    (λ c. search needs)
-    (λ c. search needs)
-    (λ c. search needs)
+    (λ c. search (load-tail-on-clauses, fill-tail-clauses, choose) depth 10)
     (λ c κs. search needs)
-    (λ c. search (load-tail-on-clauses, choose) depth 10)
-    (λ c. search (load-tail-on-clauses, choose) depth 10)
-    (λ c. search (load-tail-on-clauses, choose) depth 10)
-    (λ c. search (load-tail-on-clauses, choose) depth 10)
-    (λ c. search (load-tail-on-clauses, choose) depth 10)
-    (λ c. search (load-tail-on-clauses, choose) depth 10))
+    (λ c κs. search needs)
+    (λ c κs. search needs)
+    (λ c. search (load-tail-on-clauses, fill-tail-clauses, loads, choose) depth 10)
+    (λ c. search (load-tail-on-clauses, fill-tail-clauses, choose) depth 10))

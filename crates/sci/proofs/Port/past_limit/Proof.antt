@@ -1,4 +1,5 @@
-use Rattle.sci.proofs.Steps.{bools, step}
+use Rattle.words.proofs.Steps.{bools}
+use Rattle.sci.proofs.Steps.{step}
 use borrow.Author.Needs.{needs}
 use Rattle.sci.proofs.Port.past_limit.Statement.{statement}
 use Rattle.sci.proofs.Port.past_limit.Tie as tie
@@ -7,6 +8,5 @@ pub past-limit-spec : {M : Type 1} → statement M
 past-limit-spec =
     tie.close
     (tie.spec
-    (λ c κs. search needs)
     (λ c κs. search needs)
     (λ c. search (bools, step) depth 10))

@@ -1,4 +1,4 @@
-use Rattle.frame.proofs.Choose.{choose}
+use Rattle.sci.proofs.Steps.{keys}
 use Rattle.sci.specs.Registers.{peek}
 use Rattle.sci.proofs.Port.peek.Statement.{statement}
 use Rattle.sci.proofs.Port.peek.Tie as tie
@@ -8,12 +8,12 @@ unfolding peek
 peek-spec =
     tie.close
     (tie.spec
-    (λ c. search (choose) depth 14)
-    (λ c. search (choose) depth 14)
-    (λ c. search (choose) depth 14)
-    (λ c. search (choose) depth 14)
-    (λ c. search (choose) depth 14)
-    (λ c. search (choose) depth 14)
-    (λ c. search (choose) depth 14)
-    (λ c. search (choose) depth 14)
-    (λ c. search (choose) depth 14))
+    (λ c. search keys depth 14)
+    (λ c. search keys depth 14)
+    (λ c. search keys depth 14)
+    (λ c. search keys depth 14)
+    (λ c. search keys depth 14)
+    (λ c. search keys depth 14)
+    (λ c. search keys depth 14)
+    (λ c. search keys depth 14)
+    (λ c. search keys depth 14))

@@ -1,5 +1,5 @@
 use Rattle.sci.proofs.Keep.{halved}
-use Rattle.sci.proofs.Under.{refresh-sync-clock-of, with-power-of}
+use Rattle.sci.proofs.Steps.{power-of}
 use Rattle.sci.specs.Power.{set-power}
 use borrow.Author.Needs.{needs}
 use Rattle.sci.proofs.Port.powered.Statement.{statement}
@@ -11,6 +11,5 @@ powered-spec =
     tie.close
     (tie.spec
     (λ c κs. search needs)
-    (λ c κs. search needs)
     (λ c κs. search (halved, needs) depth 10)
-    (λ c. search (refresh-sync-clock-of, with-power-of, needs) depth 10))
+    (λ c. search (power-of, needs) depth 10))

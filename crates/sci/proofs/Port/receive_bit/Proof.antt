@@ -1,4 +1,6 @@
 use Rattle.frame.proofs.Choose.{choose}
+use Rattle.sci.proofs.Clauses.{receive-bit-on-clauses}
+use Rattle.sci.proofs.Steps.{held}
 use Rattle.sci.specs.Clocked.{receive-bit}
 use borrow.Author.Needs.{needs}
 use Rattle.sci.proofs.Port.receive_bit.Statement.{statement}
@@ -9,7 +11,11 @@ unfolding receive-bit
 receive-bit-spec =
     tie.close
     (tie.spec
+    (λ c. search needs)
+    (λ c. search needs)
     (λ c κs. search needs)
-    (λ c κs. search needs)
-    (λ c. search (choose) depth 10)
-    (λ c. search (choose) depth 10))
+    (λ c. search (receive-bit-on-clauses, choose) depth 10)
+    (λ c κs. search (held, needs) depth 10)
+    (λ c. search (receive-bit-on-clauses, choose) depth 10)
+    (λ c. search (receive-bit-on-clauses, choose) depth 10)
+    (λ c. search choose depth 10))

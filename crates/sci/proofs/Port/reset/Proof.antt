@@ -10,7 +10,7 @@ reset-spec =
     tie.close
     (tie.spec
     (λ c κs. search needs)
-    (λ c. search (choose) depth 10)
+    (λ c. search choose depth 10)
     (λ c κs. search needs)
-    (λ c. search (choose) depth 10)
-    (λ c. search (choose) depth 10))
+    (λ c. search choose depth 10)
+    (λ c. search choose depth 10))

@@ -1,4 +1,5 @@
 use Rattle.frame.proofs.Choose.{choose}
+use Rattle.words.proofs.Steps.{bools}
 use borrow.Author.Needs.{needs}
 use Rattle.sci.proofs.Port.scr_tx.Statement.{statement}
 use Rattle.sci.proofs.Port.scr_tx.Tie as tie
@@ -9,7 +10,7 @@ scr-tx-spec =
     (tie.spec
     (λ c κs. search needs)
     (λ c κs. search needs)
-    (λ c. search (choose) depth 10)
-    (λ c. search (choose) depth 10)
+    (λ c. search (bools, choose) depth 10)
+    (λ c. search (bools, choose) depth 10)
     (λ c κs. search needs)
-    (λ c. search (choose) depth 10))
+    (λ c. search choose depth 10))

@@ -1,6 +1,6 @@
 use Rattle.frame.proofs.Choose.{choose}
 use Rattle.sci.proofs.Clauses.{shift-clocked-clauses, shift-out-on-clauses}
-use Rattle.sci.proofs.Steps.{held}
+use Rattle.sci.proofs.Steps.{held, shift-out-else}
 use Rattle.sci.specs.Clocked.{shift-out}
 use borrow.Author.Needs.{needs}
 use Rattle.sci.proofs.Port.shift_out.Statement.{statement}
@@ -12,18 +12,9 @@ shift-out-spec =
     tie.close
     (tie.spec
     (λ c. search needs)
-    (λ c. search needs)
-    (λ c. search needs)
-    (λ c. search needs)
-    (λ c. search needs)
+    (λ c. search (shift-out-else, choose) depth 10)
     (λ c. search needs)
     (λ c. search needs)
     (λ c. search (shift-out-on-clauses, shift-clocked-clauses, choose) depth 10)
     (λ c κs. search (held, needs) depth 10)
-    (λ c. search needs)
-    (λ c. search (shift-out-on-clauses, shift-clocked-clauses, choose) depth 10)
-    (λ c. search (shift-out-on-clauses, shift-clocked-clauses, choose) depth 10)
-    (λ c. search (shift-out-on-clauses, shift-clocked-clauses, choose) depth 10)
-    (λ c. search (shift-out-on-clauses, shift-clocked-clauses, choose) depth 10)
-    (λ c. search (shift-out-on-clauses, shift-clocked-clauses, choose) depth 10)
     (λ c. search (shift-out-on-clauses, shift-clocked-clauses, choose) depth 10))

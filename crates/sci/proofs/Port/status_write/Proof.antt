@@ -1,14 +1,20 @@
-use Rattle.sci.proofs.Under.{status-with-of}
-use Rattle.sci.specs.Registers.{status-write}
+use Rattle.frame.proofs.Choose.{choose}
+use Rattle.words.proofs.Steps.{bools}
+use Rattle.sci.proofs.Steps.{mask-fits}
+use Rattle.sci.specs.Registers.{status-with, status-write}
 use borrow.Author.Needs.{needs}
 use Rattle.sci.proofs.Port.status_write.Statement.{statement}
 use Rattle.sci.proofs.Port.status_write.Tie as tie
 
 pub status-write-spec : {M : Type 1} → statement M
-unfolding status-write
+unfolding status-with status-write
 status-write-spec =
     tie.close
     (tie.spec
+    (λ c. search needs)
+    (λ c. search (mask-fits, needs))
     (λ c κs. search needs)
     (λ c κs. search needs)
-    (λ c. search (status-with-of, needs) depth 10))
+    (λ c. search (bools, choose) depth 10)
+    (λ c. search (bools, choose) depth 10)
+    (λ c. search choose depth 10))

@@ -1,4 +1,4 @@
-use Rattle.frame.proofs.Choose.{choose}
+use Rattle.sci.proofs.Steps.{keys}
 use Rattle.sci.specs.Registers.{stored}
 use borrow.Author.Needs.{needs}
 use Rattle.sci.proofs.Port.stored.Statement.{statement}
@@ -12,12 +12,12 @@ stored-spec =
     (λ c κs. search needs)
     (λ c κs. search needs)
     (λ c κs. search needs)
-    (λ c. search (choose) depth 14)
-    (λ c. search (choose) depth 14)
-    (λ c. search (choose) depth 14)
-    (λ c. search (choose) depth 14)
-    (λ c. search (choose) depth 14)
-    (λ c. search (choose) depth 14)
-    (λ c. search (choose) depth 14)
-    (λ c. search (choose) depth 14)
-    (λ c. search (choose) depth 14))
+    (λ c. search keys depth 14)
+    (λ c. search keys depth 14)
+    (λ c. search keys depth 14)
+    (λ c. search keys depth 14)
+    (λ c. search keys depth 14)
+    (λ c. search keys depth 14)
+    (λ c. search keys depth 14)
+    (λ c. search keys depth 14)
+    (λ c. search keys depth 14))

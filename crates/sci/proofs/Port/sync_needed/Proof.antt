@@ -1,6 +1,7 @@
+use Rattle.words.proofs.Clauses.{rx-clocked-clauses, tx-clocked-clauses}
+use Rattle.words.proofs.Steps.{bools}
+use Rattle.sci.proofs.Steps.{step}
 use borrow.Author.Needs.{needs}
-use Rattle.sci.proofs.Clauses.{rx-clocked-clauses, tx-clocked-clauses}
-use Rattle.sci.proofs.Steps.{step, bools}
 use Rattle.sci.proofs.Port.sync_needed.Statement.{statement}
 use Rattle.sci.proofs.Port.sync_needed.Tie as tie
 
@@ -8,7 +9,6 @@ pub sync-needed-spec : {M : Type 1} → statement M
 sync-needed-spec =
     tie.close
     (tie.spec
-    (λ c κs. search needs)
     (λ c κs. search needs)
     (λ c κs. search needs)
     (λ c κs. search needs)

@@ -1,6 +1,6 @@
 use Rattle.frame.proofs.Choose.{choose}
 use Rattle.sci.proofs.Clauses.{finish-clocked-clauses, tail-ends-on-clauses}
-use Rattle.sci.proofs.Steps.{held}
+use Rattle.sci.proofs.Steps.{held, tail-ends-else}
 use Rattle.sci.specs.Clocked.{tail-ends}
 use borrow.Author.Needs.{needs}
 use Rattle.sci.proofs.Port.tail_ends.Statement.{statement}
@@ -12,18 +12,9 @@ tail-ends-spec =
     tie.close
     (tie.spec
     (λ c. search needs)
-    (λ c. search needs)
-    (λ c. search needs)
-    (λ c. search needs)
-    (λ c. search needs)
-    (λ c. search needs)
+    (λ c. search (tail-ends-else, choose) depth 10)
     (λ c. search needs)
     (λ c. search needs)
     (λ c. search (tail-ends-on-clauses, finish-clocked-clauses, choose) depth 10)
     (λ c κs. search (held, needs) depth 10)
-    (λ c. search (tail-ends-on-clauses, finish-clocked-clauses, choose) depth 10)
-    (λ c. search (tail-ends-on-clauses, finish-clocked-clauses, choose) depth 10)
-    (λ c. search (tail-ends-on-clauses, finish-clocked-clauses, choose) depth 10)
-    (λ c. search (tail-ends-on-clauses, finish-clocked-clauses, choose) depth 10)
-    (λ c. search (tail-ends-on-clauses, finish-clocked-clauses, choose) depth 10)
     (λ c. search (tail-ends-on-clauses, finish-clocked-clauses, choose) depth 10))

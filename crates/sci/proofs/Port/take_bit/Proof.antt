@@ -1,6 +1,7 @@
 use Rattle.frame.proofs.Choose.{choose}
 use Rattle.sci.proofs.Steps.{busy-eq}
-use Rattle.sci.proofs.Under.{bit-taken-of, complete-receive-of, with-rx-of}
+use Rattle.words.proofs.Under.{bit-taken-of}
+use Rattle.sci.proofs.Under.{complete-receive-of, with-rx-of}
 use Rattle.sci.specs.Clocked.{take-bit}
 use borrow.Author.Needs.{needs}
 use Rattle.sci.proofs.Port.take_bit.Statement.{statement}

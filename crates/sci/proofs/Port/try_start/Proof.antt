@@ -1,6 +1,6 @@
 use Rattle.frame.proofs.Choose.{choose}
 use Rattle.sci.proofs.Clauses.{try-start-on-clauses}
-use Rattle.sci.proofs.Steps.{held}
+use Rattle.sci.proofs.Steps.{held, try-start-else, unflagged}
 use Rattle.sci.specs.Sender.{try-start}
 use borrow.Author.Needs.{needs}
 use Rattle.sci.proofs.Port.try_start.Statement.{statement}
@@ -14,14 +14,8 @@ try-start-spec =
     (λ c. search needs)
     (λ c κs. search needs)
     (λ c. search needs)
+    (λ c. search (try-start-on-clauses, unflagged, choose) depth 10)
     (λ c κs. search (held, needs) depth 10)
-    (λ c. search needs)
-    (λ c. search needs)
-    (λ c. search needs)
-    (λ c. search needs)
     (λ c. search (try-start-on-clauses, choose) depth 10)
-    (λ c. search (try-start-on-clauses, choose) depth 10)
-    (λ c. search (try-start-on-clauses, choose) depth 10)
-    (λ c. search (try-start-on-clauses, choose) depth 10)
-    (λ c. search (try-start-on-clauses, choose) depth 10)
-    (λ c. search (try-start-on-clauses, choose) depth 10))
+    (λ c. search (try-start-on-clauses, unflagged, choose) depth 10)
+    (λ c. search (try-start-else, choose) depth 10))

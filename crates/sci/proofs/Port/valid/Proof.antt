@@ -1,6 +1,6 @@
 use borrow.Author.Needs.{needs}
 use Rattle.sci.specs.Valid.{valid}
-use Rattle.sci.proofs.Steps.{bools}
+use Rattle.words.proofs.Steps.{bools}
 use Rattle.sci.proofs.Port.valid.Statement.{statement}
 use Rattle.sci.proofs.Port.valid.Tie as tie
 

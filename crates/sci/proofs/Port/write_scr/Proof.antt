@@ -1,4 +1,5 @@
-use Rattle.sci.proofs.Under.{scr-rx-of}
+use Rattle.frame.proofs.Choose.{choose}
+use Rattle.sci.proofs.Under.{with-rx-of}
 use Rattle.sci.specs.Registers.{write-scr}
 use borrow.Author.Needs.{needs}
 use Rattle.sci.proofs.Port.write_scr.Statement.{statement}
@@ -10,5 +11,6 @@ write-scr-spec =
     tie.close
     (tie.spec
     (λ c κs. search needs)
+    (λ c. search choose depth 10)
     (λ c κs. search needs)
-    (λ c. search (scr-rx-of, needs) depth 10))
+    (λ c. search (with-rx-of, choose) depth 10))

@@ -1,0 +1,20 @@
+-- Due halves: present or not, now or not.
+-- Assumes nothing.
+use Prim.Native.Nat.{ℕ}
+use mathlib.Core.Bool.{Bool, true, false}
+use lib.Dec.{eqb}
+use Rattle.words.specs.declared.Due.{Due}
+use Rattle.words.specs.declared.Due.the-variants.{Never, At}
+
+abbrev pub absent : Due → Bool
+absent Never = true
+absent (At n) = false
+
+-- due at this half
+abbrev pub due-now : Due → ℕ → Bool
+due-now Never half = false
+due-now (At n) half = eqb n half
+
+abbrev pub due-or : Due → ℕ → Due
+due-or Never n = At n
+due-or (At m) n = At m

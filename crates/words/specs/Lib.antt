@@ -1,0 +1,5 @@
+pub mod Due
+pub mod Sender
+pub mod Receiver
+pub mod Valid
+pub mod Ready
