@@ -1,9 +1,24 @@
--- The printed run of document 01, "A script comes in": the line of each of its records, and its last line; with them a refusal and the largest half
--- count. One theorem, by computation.
+-- The printed run of document 01, "A script comes in": the line of each of its records, its last line, and the whole of it from the input; its examples
+-- of refused commands; with them the largest half count. Each table has one theorem, by computation.
 -- Assumes nothing.
 use Prim.Native.Nat.{ℕ}
 use mathlib.Core.Path.{_≡_, refl}
-use mathlib.Core.List.{List, [], _∷_, map}
+use mathlib.Core.List.{List, [], _∷_, _++_, map}
+use lib.ListN.{replicate}
+use Rattle.frame.specs.Frame.{bits, number, odd-ones, format, parity-cell, frame, word, format-valid, word-valid}
+use Rattle.words.specs.Receiver.{sample-at}
+use Rattle.words.specs.Valid.{character-valid, word-in-place}
+use Rattle.sci.specs.Receiver.{arm-receive, complete-receive, advance-rx}
+use Rattle.sci.specs.Sender.{loaded, preloaded, begin, start-at, try-start, next-cell, advance-tx}
+use Rattle.sci.specs.Clocked.{refresh-sync-clock, take-bit, receive-bit, tail-ends, bit-out, shift-out, sync-edge}
+use Rattle.sci.specs.Half.{process-basic, sync, clocked-edge, advance, half-step, halves}
+use Rattle.sci.specs.Registers.{peek, read, write-scr, write-tdr, status-with, status-write, stored, connect, load-tail, settled, write}
+use Rattle.sci.specs.Power.{fresh, reset-registers, reset, set-power}
+use Rattle.sci.specs.Pins.{receive-input, external-edge, input-pins, transmit-level, interrupt}
+use Rattle.sci.specs.Valid.{registers-valid, valid}
+use Rattle.sci.specs.Calls.{called, direct}
+use Rattle.player.specs.Play.{Run, play-items, play}
+use Rattle.report.specs.Printout.{printout}
 use Rattle.report.specs.Lines.{record-line, end-line, refused-line}
 
 -- a record and its line
@@ -44,3 +59,54 @@ longest-run = refl
 -- `refused 6 at 17`
 pub refusal : refused-line 6 17 ≡ 114 ∷ 101 ∷ 102 ∷ 117 ∷ 115 ∷ 101 ∷ 100 ∷ 32 ∷ 54 ∷ 32 ∷ 97 ∷ 116 ∷ 32 ∷ 49 ∷ 55 ∷ 10 ∷ []
 refusal = refl
+
+-- ---- the whole of it
+-- document 01's input
+abbrev pub input : List ℕ
+input =
+    0x06 ∷ 0x03 ∷ 0x02 ∷ 0x91 ∷ 0xFF ∷ 0x03 ∷ 0x10 ∷ 0x02 ∷ 0x9A ∷ 0xFF ∷ 0x03 ∷ 0x20 ∷ 0x02 ∷ 0x9B ∷ 0xFF ∷ 0x03 ∷ 0x55 ∷ 0x03 ∷ 0xE0 ∷ 0x02
+    ∷ 0x01 ∷ 0x9C ∷ 0xFF ∷ 0x03 ∷ []
+
+-- the lines above one after the other, and `end 352`
+abbrev pub joined : List (List ℕ) → List ℕ
+joined [] = 101 ∷ 110 ∷ 100 ∷ 32 ∷ 51 ∷ 53 ∷ 50 ∷ 10 ∷ []
+joined (l ∷ ls) = l ++ joined ls
+
+pub whole-run : printout input ≡ joined (map (λ k. k .text) cases)
+unfolding printout play play-items transmit-level interrupt direct called valid registers-valid character-valid word-in-place format-valid word-valid fresh reset-registers reset set-power receive-input external-edge input-pins peek read write-scr write-tdr status-with status-write stored connect load-tail settled write process-basic sync clocked-edge advance half-step halves refresh-sync-clock take-bit receive-bit tail-ends bit-out shift-out sync-edge loaded preloaded begin start-at try-start next-cell advance-tx sample-at arm-receive complete-receive advance-rx bits number odd-ones format parity-cell frame word
+whole-run = refl
+
+-- ---- refused commands
+-- a script, the length of the log, and number, offset and bytes written
+pub record Refused : Type 0 where
+  pub script : List ℕ
+  pub room : ℕ
+  pub told : List ℕ
+
+abbrev refused-row : List ℕ → ℕ → List ℕ → Refused
+refused-row s n t = record { script = s; room = n; told = t }
+
+-- the examples of document 01's table, 1 to 9 without 4 and 8, which no script from a fresh port meets; and beside 9 what a log just holds, an empty script, a
+-- refusal after other commands, and 9 before the command is read
+abbrev pub refused-cases : List Refused
+refused-cases =
+    refused-row (0x01 ∷ 0xA5 ∷ 0xFF ∷ 0x03 ∷ []) 20 (1 ∷ 0 ∷ 0 ∷ [])
+    ∷ refused-row (0x03 ∷ 0x80 ∷ 0x80 ∷ 0x04 ∷ []) 20 (2 ∷ 0 ∷ 0 ∷ [])
+    ∷ refused-row (0x02 ∷ 0xA7 ∷ 0xFF ∷ 0x03 ∷ 0x80 ∷ 0x01 ∷ []) 20 (3 ∷ 0 ∷ 0 ∷ [])
+    ∷ refused-row (0x03 ∷ []) 20 (5 ∷ 0 ∷ 0 ∷ [])
+    ∷ refused-row (0x80 ∷ 0x00 ∷ []) 20 (6 ∷ 0 ∷ 0 ∷ [])
+    ∷ refused-row (0x08 ∷ []) 20 (7 ∷ 0 ∷ 0 ∷ [])
+    ∷ refused-row (0x07 ∷ []) 4 (9 ∷ 0 ∷ 0 ∷ [])
+    ∷ refused-row (0x07 ∷ []) 5 (0 ∷ 0 ∷ 5 ∷ [])
+    ∷ refused-row (0x07 ∷ 0x07 ∷ []) 9 (9 ∷ 1 ∷ 5 ∷ [])
+    ∷ refused-row [] 0 (0 ∷ 0 ∷ 0 ∷ [])
+    ∷ refused-row (0x06 ∷ 0x03 ∷ 0x04 ∷ 0x00 ∷ 0x08 ∷ []) 20 (7 ∷ 4 ∷ 10 ∷ [])
+    ∷ refused-row (0x08 ∷ []) 4 (9 ∷ 0 ∷ 0 ∷ [])
+    ∷ []
+
+abbrev pub told-by : Run → List ℕ
+told-by r = r .number ∷ r .offset ∷ r .used ∷ []
+
+pub each-refusal : map (λ k. told-by (play fresh (k .script) (replicate (k .room) 0))) refused-cases ≡ map (λ k. k .told) refused-cases
+unfolding play play-items transmit-level interrupt direct called valid registers-valid character-valid word-in-place format-valid word-valid fresh reset-registers reset set-power receive-input external-edge input-pins peek read write-scr write-tdr status-with status-write stored connect load-tail settled write process-basic sync clocked-edge advance half-step halves refresh-sync-clock take-bit receive-bit tail-ends bit-out shift-out sync-edge loaded preloaded begin start-at try-start next-cell advance-tx sample-at arm-receive complete-receive advance-rx bits number odd-ones format parity-cell frame word
+each-refusal = refl

@@ -1,4 +1,4 @@
 pub mod Decimal
 pub mod Lines
-pub mod Cases
 pub mod Printout
+pub mod Cases
