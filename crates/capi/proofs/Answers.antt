@@ -33,9 +33,9 @@ undecoded f s e t = ap (λ (b : Bool). cond b (a-port (port-in s)) nothing) (sym
 pub direct-of : (x : Answer) (c d : Call) (p : Port) → x ≡ direct c p → c ≡ d → x ≡ direct d p
 direct-of x c d p h e = h ∙ ap (λ (y : Call). direct y p) e
 
-pub answered-done : (s e w : List ℕ) (v : ℕ) (x : Called) → x .outcome ≡ Done v → e ≡ w → w ≡ encode (x .port) → lent v e ≡ answered s (answer x)
-answered-done s e w v x h k l =
-    ap (lent v) (k ∙ l) ∙ sym (ap (λ (o : Outcome). answered s (answer-of o (x .port))) h)
+pub answered-done : (s e : List ℕ) (v : ℕ) (x : Called) → x .outcome ≡ Done v → e ≡ encode (x .port) → lent v e ≡ answered s (answer x)
+answered-done s e v x h k =
+    ap (lent v) k ∙ sym (ap (λ (o : Outcome). answered s (answer-of o (x .port))) h)
 
 pub answered-refused : (s : List ℕ) (n offset : ℕ) (r : Refusal) (x : Called) → x .outcome ≡ Refused r offset → n ≡ number r → lent (256 + n) s ≡ answered s (answer x)
 answered-refused s n offset r x h k =
@@ -75,15 +75,15 @@ unfolding interrupt-answer
 interrupt-on-nothing f s e t = sym (ap interrupt-on (undecoded f s e t))
 
 -- ---- sci3_fresh
-pub fresh-eq : (n : ℕ) (e w : List ℕ) (p q : Port) → e ≡ w → w ≡ encode p → p ≡ q → lent n e ≡ lent n (encode q)
-fresh-eq n e w p q h k l = ap (lent n) (h ∙ k ∙ ap encode l)
+pub fresh-eq : (n : ℕ) (e : List ℕ) (p q : Port) → e ≡ encode p → p ≡ q → lent n e ≡ lent n (encode q)
+fresh-eq n e p q h l = ap (lent n) (h ∙ ap encode l)
 
 -- ---- sci3_play
 pub put-left : (s : List ℕ) (n : ℕ) (p : Port) → n ≡ 8 → s ≡ cond (eqb n 8) s (encode p)
 put-left s n p h = sym (ap (λ (b : Bool). cond b s (encode p)) (eq-eqb n 8 h))
 
-pub put-port : (s e w : List ℕ) (n : ℕ) (p : Port) → (n ≡ 8 → ⊥) → e ≡ w → w ≡ encode p → e ≡ cond (eqb n 8) s (encode p)
-put-port s e w n p h k l = k ∙ l ∙ sym (ap (λ (b : Bool). cond b s (encode p)) (ne-eqb n 8 h))
+pub put-port : (s e : List ℕ) (n : ℕ) (p : Port) → (n ≡ 8 → ⊥) → e ≡ encode p → e ≡ cond (eqb n 8) s (encode p)
+put-port s e n p h k = k ∙ sym (ap (λ (b : Bool). cond b s (encode p)) (ne-eqb n 8 h))
 
 pub play-on-port : (f : Bool) (s script log e l : List ℕ) (n offset : ℕ) (r : Played) (p : Port) → f ≡ fits port-max s → f ≡ true → ran r l ≡ play p script log → p ≡ port-in s
     → n ≡ end-number (r .end) → offset ≡ end-offset (r .end) → e ≡ cond (eqb n 8) s (encode (r .port)) → playing n (offset ∷ r .used ∷ []) e l ≡ played s script log

@@ -1,5 +1,5 @@
 -- What each exported function answers, and what it leaves in the lent array.
--- An answer below 256 is that of an accepted call; 256 and document 01's number is a refusal, and the array is then as it was.
+-- Of all but sci3_play: an answer below 256 is that of an accepted call; 256 and document 01's number is a refusal, and the array is then as it was.
 -- Assumes nothing.
 use Prim.Native.Nat.{ℕ, _+_, _*_}
 use mathlib.Core.Bool.{cond, _&&_}

@@ -1,10 +1,10 @@
-// SCI3 for programs in other languages: a port's state in a lent array of numbers, and the direct calls on it.
+// SCI3 for programs in other languages: a port's state in a lent array of numbers, the direct calls on it, and the player of scripts.
 ghost use mathlib.Core.Path.{_≡_};
 ghost use mathlib.Core.Bool.{true, cond};
-ghost use Prim.Native.Nat.{_≤_};
+ghost use Prim.Native.Nat.{_+_, _≤_};
 ghost use mathlib.Core.List.{_++_};
 ghost use lib.Dec.{eqb};
-ghost use lib.ListN.{length};
+ghost use lib.ListN.{length, take};
 ghost use Rattle.frame.specs.Frame.{one-if};
 ghost use Rattle.words.specs.Sender.{tx-next};
 ghost use Rattle.sci.specs.Calls.{answer, direct};
@@ -415,90 +415,6 @@ fn line_words(p: Port) -> [u64; 9]
     ]
 }
 
-// The groups of a port's numbers, one after the other.
-fn joined(
-    registers: [u64; 10],
-    power: [u64; 7],
-    holding: [u64; 2],
-    tx: [u64; 12],
-    rx: [u64; 13],
-    line: [u64; 9],
-) -> [u64; 53]
-    ensures { λ r. ⌜ r ≡ registers ++ (power ++ (holding ++ (tx ++ (rx ++ line)))) ⌝ }
-{
-    [
-        registers[0],
-        registers[1],
-        registers[2],
-        registers[3],
-        registers[4],
-        registers[5],
-        registers[6],
-        registers[7],
-        registers[8],
-        registers[9],
-        power[0],
-        power[1],
-        power[2],
-        power[3],
-        power[4],
-        power[5],
-        power[6],
-        holding[0],
-        holding[1],
-        tx[0],
-        tx[1],
-        tx[2],
-        tx[3],
-        tx[4],
-        tx[5],
-        tx[6],
-        tx[7],
-        tx[8],
-        tx[9],
-        tx[10],
-        tx[11],
-        rx[0],
-        rx[1],
-        rx[2],
-        rx[3],
-        rx[4],
-        rx[5],
-        rx[6],
-        rx[7],
-        rx[8],
-        rx[9],
-        rx[10],
-        rx[11],
-        rx[12],
-        line[0],
-        line[1],
-        line[2],
-        line[3],
-        line[4],
-        line[5],
-        line[6],
-        line[7],
-        line[8],
-    ]
-}
-
-fn words(p: Port) -> [u64; 53]
-    ensures { λ r. ⌜ r ≡ encode p ⌝ }
-{
-    let holding = p.holding;
-    let tx = p.tx;
-    let rx = p.rx;
-    joined(
-        register_words(p),
-        power_words(p),
-        holding_words(holding),
-        tx_words(tx),
-        rx_words(rx),
-        line_words(p),
-    )
-}
-
 // ---- numbers as a port
 fn due_in(s: &[u64]) -> Due
     requires { ⌜ fits due-max (now s) ≡ true ⌝ }
@@ -683,9 +599,10 @@ fn is_state(s: &[u64]) -> bool
     if s.len() != STATE {
         return false;
     }
+    let maxima = MAXIMA;
     let mut i: usize = 0;
     while i < STATE {
-        if s[i] > MAXIMA[i] {
+        if s[i] > maxima[i] {
             return false;
         }
         i += 1;
@@ -693,15 +610,39 @@ fn is_state(s: &[u64]) -> bool
     true
 }
 
-fn store(s: &mut [u64], numbers: [u64; 53])
-    requires { ⌜ length (now s) ≡ length port-max ⌝ }
-    ensures { λ r. ⌜ now (s .exit) ≡ numbers ⌝ }
+// Puts numbers at a place of the array, after those that stand before it.
+fn put(s: &mut [u64], at: usize, numbers: &[u64])
+    requires { ⌜ at + length (now numbers) ≤ length (now s) ⌝ }
+    ensures { λ _. ⌜ take (at + length (now (numbers .entry))) (now (s .exit)) ≡ take at (now (s .entry)) ++ now (numbers .entry) ⌝ }
 {
     let mut i: usize = 0;
-    while i < STATE {
-        s[i] = numbers[i];
+    while i < numbers.len() {
+        s[at + i] = numbers[i];
         i += 1;
     }
+}
+
+// Puts a port's numbers into the array, group by group: the first three groups, and then all.
+fn store_first(s: &mut [u64], p: Port)
+    requires { ⌜ 19 ≤ length (now s) ⌝ }
+    ensures { λ _. ⌜ take 19 (now (s .exit)) ≡ register-list p ++ (power-list p ++ holding-list (p .holding)) ⌝ }
+{
+    let holding = p.holding;
+    put(s, 0, &register_words(p));
+    put(s, 10, &power_words(p));
+    put(s, 17, &holding_words(holding));
+}
+
+fn store(s: &mut [u64], p: Port)
+    requires { ⌜ length (now s) ≡ length port-max ⌝ }
+    ensures { λ _. ⌜ now (s .exit) ≡ encode p ⌝ }
+{
+    let tx = p.tx;
+    let rx = p.rx;
+    store_first(s, p);
+    put(s, 19, &tx_words(tx));
+    put(s, 31, &rx_words(rx));
+    put(s, 44, &line_words(p));
 }
 
 // ---- the exported functions
@@ -728,7 +669,7 @@ fn answered(s: &mut [u64], called: Called) -> u64
     match outcome {
         Outcome::Done(value) => {
             let port = called.port;
-            store(s, words(port));
+            store(s, port);
             value as u64
         }
         Outcome::Refused { refusal, offset: _ } => 256 + refusal.number() as u64,
@@ -807,7 +748,7 @@ pub extern "C" fn sci3_fresh(state: &mut [u64]) -> u64
     ensures { λ r. ⌜ lent r (now (state .exit)) ≡ fresh-state (now (state .entry)) ⌝ }
 {
     if state.len() == STATE {
-        store(state, words(Port::fresh()));
+        store(state, Port::fresh());
         return 0;
     }
     264
@@ -819,7 +760,7 @@ fn put_state(s: &mut [u64], number: u8, port: Port)
     ensures { λ _. ⌜ now (s .exit) ≡ cond (eqb number 8) (now (s .entry)) (encode port) ⌝ }
 {
     if number != 8 {
-        store(s, words(port));
+        store(s, port);
     }
 }
 

@@ -10,10 +10,10 @@ use Rattle.capi.proofs.is_state.Statement.{statement}
 use Rattle.capi.proofs.is_state.Tie as tie
 
 abbrev Inv-loop : tie.InvT-loop
-Inv-loop s i₀ i = (i ≤ 53) × (length s ≡ length port-max) × (fits port-max s ≡ fits (drop i port-max) (drop i s))
+Inv-loop s maxima i₀ i = (i ≤ 53) × (length s ≡ length port-max) × (fits port-max s ≡ fits (drop i port-max) (drop i s))
 
 abbrev μ-loop : tie.MeasureT-loop
-μ-loop s i₀ i = 53 - i
+μ-loop s maxima i₀ i = 53 - i
 
 pub is-state-spec : {M : Type 1} → statement M
 is-state-spec =

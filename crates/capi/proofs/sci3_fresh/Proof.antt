@@ -12,7 +12,6 @@ sci3-fresh-spec =
     (tie.spec
     (λ c κs. search needs)
     (λ c κs. search needs)
-    (λ c κs. search needs)
     (λ c. search needs)
     (λ c. search (fresh-eq, choose))
-    (λ c. search (fresh-eq, choose)))
+    (λ c. search choose))
