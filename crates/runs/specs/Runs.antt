@@ -1,7 +1,7 @@
 -- What holds of every run of a script. A run is its commands' direct calls, each on the port that the one before left, and its log their records; the
 -- test 8 at entry is the only one that can refuse by 8; and what the recovery theorem says of lists of direct calls holds of scripts (document 01,
 -- "Healing": "Once the player is there, a script counts as its commands' calls").
--- Proved in proofs/Runs.antt.
+-- Proved in proofs/Runs.antt; proofs/Example.antt has a script with a noisy history that meets all that demand 3 asks.
 -- Assumes nothing.
 use mathlib.Core.Path.{_≡_}
 use Prim.Native.Nat.{ℕ, _*_, _/_}
