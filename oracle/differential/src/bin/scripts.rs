@@ -33,7 +33,7 @@ scripts [OPTIONS]      with no option: the gate
                        oracle's, which tries the runner and compares no port";
 
 /// Random scripts of the gate: with the other parts about a minute.
-const GATE_SCRIPTS: u64 = 400_000;
+const GATE_SCRIPTS: u64 = 2_000_000;
 const LONG_SCRIPTS: u64 = 10_000_000;
 const SEED: u64 = 0x5c13_0000;
 /// Coverage is asserted from so many random scripts on, when all parts run.
