@@ -10,3 +10,4 @@ pub mod Pins
 pub mod Valid
 pub mod Calls
 pub mod Ready
+pub mod Facts
