@@ -6,12 +6,13 @@ use Prim.Native.Nat.{ℕ}
 use lib.Dec.{eqb}
 use borrow.Author.Tests.{ne-eqb, eq-eqb, lt-ltb, le-ltb, le-leb, lt-leb}
 use borrow.Author.Needs.{needs}
+use Rattle.frame.proofs.Branches.{cond-true, cond-false}
 
 pub cond-t : {A : Type 0} (b : Bool) (x y z : A) → b ≡ true → z ≡ x → z ≡ cond b x y
-cond-t b x y z h e = e ∙ sym (ap (λ (t : Bool). cond t x y) h)
+cond-t b x y z h e = e ∙ sym (cond-true b x y h)
 
 pub cond-f : {A : Type 0} (b : Bool) (x y z : A) → b ≡ false → z ≡ y → z ≡ cond b x y
-cond-f b x y z h e = e ∙ sym (ap (λ (t : Bool). cond t x y) h)
+cond-f b x y z h e = e ∙ sym (cond-false b x y h)
 
 pub has-t : (a : ℕ) → (a ≡ 0 → ⊥) → not (eqb a 0) ≡ true
 has-t a h = ap not (ne-eqb a 0 h)

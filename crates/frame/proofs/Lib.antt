@@ -1,3 +1,4 @@
+pub mod Branches
 pub mod Choose
 pub mod Truth
 pub mod Laws

@@ -24,10 +24,10 @@ use Rattle.sci.specs.Half.{process-basic, inside, uncounted}
 use Rattle.sci.specs.Registers.{handles, read, sender-off, sender-on, scr-tx, write-scr, write-tdr, cleared, status-with, status-write, stored, connect, load-tail, settled, write}
 use Rattle.sci.specs.Power.{fresh, reset-registers, reset, with-power, set-power}
 use Rattle.sci.specs.Pins.{receive-input, external-edge, pins-change, input-pins}
-use Rattle.laws.proofs.Branches.{by-cond, both-arms}
+use Rattle.frame.proofs.Branches.{by-cond, both-arms}
 use Rattle.laws.proofs.Masks.{and-and, and-or, or-clear, and-clear}
-use Rattle.laws.proofs.SenderKeeps.{SenderClosed, free-sender, try-keeps, load-tail-keeps}
-use Rattle.laws.proofs.ReceiverKeeps.{ReceiverClosed, free-receiver, arm-keeps, basic-keeps, sync-edge-keeps}
+use Rattle.sci.proofs.SenderKeeps.{SenderClosed, free-sender, try-keeps, load-tail-keeps}
+use Rattle.sci.proofs.ReceiverKeeps.{ReceiverClosed, free-receiver, arm-keeps, basic-keeps, sync-edge-keeps}
 use Rattle.laws.proofs.KeepSender.{Ahead, Sends, try-sends, load-tail-sends, boundary-near}
 use Rattle.laws.proofs.KeepReceiver.{Storable, Side, side-closed, side-flags, side-rx, side-stored}
 use Rattle.laws.proofs.KeepHalf.{Ok, Kept, DueNext, ok-arm, ok-sync-edge, ok-refresh, kept-refresh, due-sender, basic-first, side-counted}

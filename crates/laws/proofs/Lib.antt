@@ -1,7 +1,4 @@
-pub mod Branches
 pub mod Masks
-pub mod SenderKeeps
-pub mod ReceiverKeeps
 pub mod KeepSender
 pub mod KeepReceiver
 pub mod KeepHalf

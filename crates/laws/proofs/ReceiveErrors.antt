@@ -10,7 +10,7 @@ use Rattle.sci.specs.declared.Port.{Port}
 use Rattle.words.specs.declared.Rx.{Rx}
 use Rattle.sci.specs.Receiver.{complete-receive}
 use Rattle.laws.specs.ReceiveErrors.{row, errors, flags, Agrees, Holds, Receives-as-the-manual}
-use Rattle.laws.proofs.Branches.{by-cond, is-not, without}
+use Rattle.frame.proofs.Branches.{by-cond, is-not, without}
 use Rattle.laws.proofs.Masks.{and-or}
 
 -- SSR gains the bits m

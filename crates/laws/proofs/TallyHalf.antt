@@ -22,9 +22,9 @@ use Rattle.words.specs.Receiver.{rx-clocked, rx-due-on}
 use Rattle.sci.specs.Clocked.{sync-needed, with-clock, refresh-sync-clock, sync-edge}
 use Rattle.sci.specs.Half.{process-basic, sync, clocked-edge, advance, half-step}
 use Rattle.laws.specs.Laws.{tally, finishes-on, finishes, receives, rises}
-use Rattle.laws.proofs.Branches.{by-cond, both-arms}
-use Rattle.laws.proofs.SenderKeeps.{free-sender}
-use Rattle.laws.proofs.ReceiverKeeps.{free-receiver, refresh-keeps, arm-keeps, basic-keeps}
+use Rattle.frame.proofs.Branches.{by-cond, both-arms}
+use Rattle.sci.proofs.SenderKeeps.{free-sender}
+use Rattle.sci.proofs.ReceiverKeeps.{free-receiver, refresh-keeps, arm-keeps, basic-keeps}
 use Rattle.laws.proofs.KeepReceiver.{Side}
 use Rattle.laws.proofs.KeepHalf.{Ok, Kept, basic-first, basic-again, ok-refresh, side-counted}
 use Rattle.laws.proofs.TallySent.{Sent, clocked-tail, Tailed, basic-sent, basic-tail, edge-sent, sent-once}

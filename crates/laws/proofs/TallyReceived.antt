@@ -26,10 +26,10 @@ use Rattle.sci.specs.Sender.{advance-tx}
 use Rattle.sci.specs.Clocked.{take-bit, receive-bit, receive-bit-on, sync-edge}
 use Rattle.sci.specs.Half.{process-basic}
 use Rattle.laws.specs.Laws.{tally, clean, completes-on, receives}
-use Rattle.laws.proofs.Branches.{by-cond, both-arms, and-no}
+use Rattle.frame.proofs.Branches.{by-cond, both-arms, and-no}
 use Rattle.laws.proofs.Masks.{and-and, and-or}
-use Rattle.laws.proofs.SenderKeeps.{SenderClosed, free-sender, shift-keeps, advance-tx-keeps, tail-keeps}
-use Rattle.laws.proofs.ReceiverKeeps.{arm-keeps}
+use Rattle.sci.proofs.SenderKeeps.{SenderClosed, free-sender, shift-keeps, advance-tx-keeps, tail-keeps}
+use Rattle.sci.proofs.ReceiverKeeps.{arm-keeps}
 use Rattle.laws.proofs.KeepSender.{DueBy, plain-due}
 use Rattle.laws.proofs.KeepReceiver.{RxGood, RxFits, Side, side-closed}
 

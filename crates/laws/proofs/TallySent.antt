@@ -23,9 +23,9 @@ use Rattle.sci.specs.Sender.{loaded, preloaded, preloaded-on, begin, start-at, 
 use Rattle.sci.specs.Clocked.{receive-bit, tail-ends, tail-ends-on, sync-edge}
 use Rattle.sci.specs.Half.{process-basic}
 use Rattle.laws.specs.Laws.{wrap, tally, finishes-on}
-use Rattle.laws.proofs.Branches.{by-cond, both-arms, and-no, and-yes}
-use Rattle.laws.proofs.SenderKeeps.{StartClosed, free-start, begin-keeps, try-keeps, next-keeps, shift-keeps}
-use Rattle.laws.proofs.ReceiverKeeps.{ReceiverClosed, free-receiver, arm-keeps, advance-rx-keeps, receive-bit-keeps}
+use Rattle.frame.proofs.Branches.{by-cond, both-arms, and-no, and-yes}
+use Rattle.sci.proofs.SenderKeeps.{StartClosed, free-start, begin-keeps, try-keeps, next-keeps, shift-keeps}
+use Rattle.sci.proofs.ReceiverKeeps.{ReceiverClosed, free-receiver, arm-keeps, advance-rx-keeps, receive-bit-keeps}
 
 -- ---- the end of a tail
 abbrev pub Sent : ℕ → Port → Type 0

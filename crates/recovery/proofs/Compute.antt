@@ -14,7 +14,7 @@ use Rattle.frame.specs.Frame.{has}
 use Rattle.sci.specs.Baud.{format-of, internal}
 use Rattle.sci.specs.Calls.{Answer, Call, done, lets-pass, passes-inside, reads, refused, sets-line, sets-pins, sets-power, writes}
 use Rattle.words.specs.Receiver.{rx-clocked}
-use Rattle.laws.proofs.Branches.{not-true}
+use Rattle.frame.proofs.Branches.{not-true}
 use Rattle.recovery.specs.Line.{Count, Event, Item, count-after, half-passes, none-yet, other, prefix, rdr-read, signal, stop-cells-begun, stop-cells-passed, tally-after, values}
 use Rattle.recovery.specs.Recovery.{HistoryEnd, Holds, Moment, Recovered, Recovers, Rest, Wired, Words, accepted, allowed-in-rest, allowed-in-words, answer-is, by-8, call-trace, each, level-of, levels, line-at-mark, one-moment, read-before, run, separated, start, step, throughout, trace, wait-trace, waited}
 use Rattle.recovery.proofs.RestCalls.{levels-append}

@@ -21,10 +21,10 @@ use Rattle.words.specs.Due.{due-now}
 use Rattle.sci.specs.Receiver.{advance-rx, advance-rx-on, after-sample, arm-receive, arm-receive-on, complete-receive, error-free, input-level}
 use Rattle.sci.specs.Registers.{load-tail}
 use Rattle.sci.specs.Sender.{advance-tx, try-start}
-use Rattle.laws.proofs.Branches.{by-cond, is-not, without}
+use Rattle.frame.proofs.Branches.{by-cond, is-not, without}
 use Rattle.laws.proofs.Masks.{and-and, and-or}
-use Rattle.laws.proofs.ReceiverKeeps.{refresh-keeps}
-use Rattle.laws.proofs.SenderKeeps.{SenderClosed, StartClosed, advance-tx-keeps, load-tail-keeps, shift-keeps, tail-keeps, try-keeps}
+use Rattle.sci.proofs.ReceiverKeeps.{refresh-keeps}
+use Rattle.sci.proofs.SenderKeeps.{SenderClosed, StartClosed, advance-tx-keeps, load-tail-keeps, shift-keeps, tail-keeps, try-keeps}
 use Rattle.recovery.proofs.View.{View, v-advance, v-advance-on, v-arm, v-arm-on, v-basic, v-complete, v-flags, v-outcome, v-word}
 
 abbrev pub view : Port → View

@@ -30,7 +30,7 @@ use Rattle.sci.specs.Registers.{cleared, connect, handles, load-tail, peek, rea
 use Rattle.words.specs.Sender.{holds}
 use Rattle.sci.specs.Sender.{try-start}
 use Rattle.sci.specs.Valid.{limit, valid}
-use Rattle.laws.proofs.Branches.{by-cond, not-true}
+use Rattle.frame.proofs.Branches.{by-cond, not-true}
 use Rattle.recovery.specs.Line.{Event, Item, half-passes, none-yet, other, prefix, rdr-read, signal}
 use Rattle.recovery.specs.Recovery.{Holds, Moment, allowed-in-words, level-of, levels, one-moment, separated, throughout}
 use Rattle.recovery.proofs.Bounds.{Fits, advance-quiet, by-clock, format-sound}

@@ -1,17 +1,18 @@
 -- What the proofs of the direct calls cite: an accepted answer put together from what calls gave, and what the tests that a call has passed say.
 -- Assumes nothing.
 use mathlib.Core.Path.{_≡_, refl, sym, ap, ap₂, _∙_}
-use mathlib.Core.Bool.{Bool, true, false, cond, _&&_}
+use mathlib.Core.Bool.{Bool, true, false, not, cond, _&&_}
 use Prim.Native.Nat.{ℕ, _+_, _≤_, _<_}
 use native.Mathlib.Omega.{arith}
 use lib.Dec.{leb}
 use mir.Syntax.{w8, w32}
 use mir.Val.{Fits}
 use borrow.Author.Tests.{leb-true, leb-false}
+use Rattle.frame.proofs.Branches.{not-true}
 use Rattle.frame.proofs.Truth.{and-right}
 use Rattle.sci.specs.declared.Port.{Port}
 use Rattle.sci.specs.Fields.{with-input-clock}
-use Rattle.sci.specs.Baud.{edge-counts}
+use Rattle.sci.specs.Baud.{external, running, internal, edge-counts}
 use Rattle.sci.specs.Pins.{receive-input, external-edge}
 use Rattle.sci.specs.Valid.{limit, valid}
 use Rattle.sci.specs.Calls.{Answer, done}
@@ -30,6 +31,10 @@ sum-fits r p n e t h = record { fits = omega (arith, flag-ready r p e t .half≤
 
 pub flag-half : (r : Bool) (p : Port) → r ≡ valid p → r ≡ true → p .half ≤ limit
 flag-half r p e t = flag-ready r p e t .half≤
+
+-- halves pass on the internal clock
+pub flag-internal : (r : Bool) (p : Port) → r ≡ internal p → r ≡ true → external p ≡ false
+flag-internal r p e t = not-true (external p) (and-right (running p) (not (external p)) (sym e ∙ t))
 
 -- an edge that passed test 4 has room
 pub edge-room : (f clock : Bool) (p : Port) → f ≡ (edge-counts clock p && leb limit (p .half)) → f ≡ false → edge-counts clock p ≡ true → p .half < limit

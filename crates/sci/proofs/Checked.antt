@@ -29,7 +29,7 @@ use Rattle.sci.specs.Valid.{limit, registers-valid, valid}
 use Rattle.words.specs.Ready.{Bounded, Plain, Placed, PlacedIn, LoadedBounded, Below, Sendable}
 use Rattle.sci.specs.Ready.{Ready}
 use Rattle.sci.proofs.Steps.{valid-bounded}
-use Rattle.sci.proofs.Keep.{both}
+use Rattle.frame.proofs.Branches.{both-arms}
 
 -- ---- a due half only with a start-stop word
 valid-plain : (d : Due) (s : Bool) (half : ℕ) → due-by d s half ≡ true → Plain d s
@@ -108,23 +108,23 @@ flag-ready r p e h = valid-ready p (sym e ∙ h)
 -- the new line and the new clock level are no part of whether an edge counts
 pub edge-counts-kept : (clock line : Bool) (p : Port) → edge-counts clock (with-input-clock (receive-input line p) clock) ≡ edge-counts clock p
 unfolding receive-input arm-receive
-edge-counts-kept clock line p = both Same (differ line (p .input)) (go (p .rx)) refl where
+edge-counts-kept clock line p = both-arms Same (differ line (p .input)) _ _ (go (p .rx)) refl where
   Same : Port → Type 0
   Same q = edge-counts clock (with-input-clock q clock) ≡ edge-counts clock p
 
   go : (x : Receiver) → Same (arm-receive-on x (with-input p line))
-  go Idle = both Same (arms (with-input p line)) refl refl
+  go Idle = both-arms Same (arms (with-input p line)) _ _ refl refl
   go (Busy x) = refl
 
 -- nor do they move the half count
 pub receive-input-half : (line : Bool) (p : Port) → receive-input line p .half ≡ p .half
 unfolding receive-input arm-receive
-receive-input-half line p = both Same (differ line (p .input)) (go (p .rx)) refl where
+receive-input-half line p = both-arms Same (differ line (p .input)) _ _ (go (p .rx)) refl where
   Same : Port → Type 0
   Same q = q .half ≡ p .half
 
   go : (x : Receiver) → Same (arm-receive-on x (with-input p line))
-  go Idle = both Same (arms (with-input p line)) refl refl
+  go Idle = both-arms Same (arms (with-input p line)) _ _ refl refl
   go (Busy x) = refl
 
 -- the same of a call's result

@@ -27,10 +27,12 @@ use Rattle.sci.specs.declared.Outcome.{Outcome}
 use Rattle.sci.specs.declared.Outcome.the-variants.{Done, Refused}
 use Rattle.sci.specs.Calls.{Answer, number, answer-of}
 use Rattle.sci.specs.Clocked.{receive-bit-on, finish-clocked, tail-ends-on, shift-clocked, shift-out-on}
+use Rattle.sci.specs.Facts.{mark-end}
 use Rattle.sci.specs.Pins.{level-number}
 use Rattle.sci.specs.Receiver.{arm-receive-on, after-sample, advance-rx-on}
 use Rattle.sci.specs.Registers.{fill-tail, load-tail-on}
 use Rattle.sci.specs.Sender.{loaded-on, preloaded-on, start-loaded, try-start-on, finish-tail, send-step-on, advance-tx-on}
+use Rattle.sci.specs.Skip.{arms-on}
 
 pub number-address : (x : Refusal) (z : ℕ) → x ≡ Address → z ≡ number Address → z ≡ number x
 number-address x z h e = e ∙ sym (ap (λ (t : Refusal). number t) h)
@@ -118,6 +120,24 @@ shift-out-on-data x c0 c1 c2 y0 z h e = e ∙ sym (ap (λ (t : Tx). shift-out-on
 
 pub shift-out-on-tail : (x : Tx) (c0 : Loaded) (c1 : Due) (y0 : Port) (z : Port) → x ≡ Tail c0 c1 → z ≡ shift-out-on (Tail c0 c1) y0 → z ≡ shift-out-on x y0
 shift-out-on-tail x c0 c1 y0 z h e = e ∙ sym (ap (λ (t : Tx). shift-out-on t y0) h)
+
+pub mark-end-off : (x : Tx) (z : ℕ) → x ≡ Off → z ≡ mark-end Off → z ≡ mark-end x
+mark-end-off x z h e = e ∙ sym (ap (λ (t : Tx). mark-end t) h)
+
+pub mark-end-blocked : (x : Tx) (c0 : Character) (z : ℕ) → x ≡ Blocked c0 → z ≡ mark-end (Blocked c0) → z ≡ mark-end x
+mark-end-blocked x c0 z h e = e ∙ sym (ap (λ (t : Tx). mark-end t) h)
+
+pub mark-end-mark : (x : Tx) (c0 : ℕ) (z : ℕ) → x ≡ Mark c0 → z ≡ mark-end (Mark c0) → z ≡ mark-end x
+mark-end-mark x c0 z h e = e ∙ sym (ap (λ (t : Tx). mark-end t) h)
+
+pub mark-end-start : (x : Tx) (c0 : Character) (c1 : ℕ) (z : ℕ) → x ≡ Start c0 c1 → z ≡ mark-end (Start c0 c1) → z ≡ mark-end x
+mark-end-start x c0 c1 z h e = e ∙ sym (ap (λ (t : Tx). mark-end t) h)
+
+pub mark-end-data : (x : Tx) (c0 : Character) (c1 : ℕ) (c2 : Due) (z : ℕ) → x ≡ Data c0 c1 c2 → z ≡ mark-end (Data c0 c1 c2) → z ≡ mark-end x
+mark-end-data x c0 c1 c2 z h e = e ∙ sym (ap (λ (t : Tx). mark-end t) h)
+
+pub mark-end-tail : (x : Tx) (c0 : Loaded) (c1 : Due) (z : ℕ) → x ≡ Tail c0 c1 → z ≡ mark-end (Tail c0 c1) → z ≡ mark-end x
+mark-end-tail x c0 c1 z h e = e ∙ sym (ap (λ (t : Tx). mark-end t) h)
 
 pub level-number-released : (x : Transmit) (z : ℕ) → x ≡ Released → z ≡ level-number Released → z ≡ level-number x
 level-number-released x z h e = e ∙ sym (ap (λ (t : Transmit). level-number t) h)
@@ -248,6 +268,12 @@ advance-tx-on-data x c0 c1 c2 y0 z h e = e ∙ sym (ap (λ (t : Tx). advance-tx-
 pub advance-tx-on-tail : (x : Tx) (c0 : Loaded) (c1 : Due) (y0 : Port) (z : Port) → x ≡ Tail c0 c1 → z ≡ advance-tx-on (Tail c0 c1) y0 → z ≡ advance-tx-on x y0
 advance-tx-on-tail x c0 c1 y0 z h e = e ∙ sym (ap (λ (t : Tx). advance-tx-on t y0) h)
 
+pub arms-on-idle : (x : Receiver) (y0 : Port) (z : Bool) → x ≡ Idle → z ≡ arms-on Idle y0 → z ≡ arms-on x y0
+arms-on-idle x y0 z h e = e ∙ sym (ap (λ (t : Receiver). arms-on t y0) h)
+
+pub arms-on-busy : (x : Receiver) (c0 : Rx) (y0 : Port) (z : Bool) → x ≡ Busy c0 → z ≡ arms-on (Busy c0) y0 → z ≡ arms-on x y0
+arms-on-busy x c0 y0 z h e = e ∙ sym (ap (λ (t : Receiver). arms-on t y0) h)
+
 pub ruleset number-clauses = (number-address, number-operand, number-infrared, number-count, number-short, number-number, number-kind, number-state, number-full)
 
 pub ruleset answer-of-clauses = (answer-of-done, answer-of-refused)
@@ -261,6 +287,8 @@ pub ruleset tail-ends-on-clauses = (tail-ends-on-off, tail-ends-on-blocked, tail
 pub ruleset shift-clocked-clauses = (shift-clocked-never, shift-clocked-at)
 
 pub ruleset shift-out-on-clauses = (shift-out-on-off, shift-out-on-blocked, shift-out-on-mark, shift-out-on-start, shift-out-on-data, shift-out-on-tail)
+
+pub ruleset mark-end-clauses = (mark-end-off, mark-end-blocked, mark-end-mark, mark-end-start, mark-end-data, mark-end-tail)
 
 pub ruleset level-number-clauses = (level-number-released, level-number-level)
 
@@ -287,3 +315,5 @@ pub ruleset finish-tail-clauses = (finish-tail-nothing, finish-tail-next)
 pub ruleset send-step-on-clauses = (send-step-on-off, send-step-on-blocked, send-step-on-mark, send-step-on-start, send-step-on-data, send-step-on-tail)
 
 pub ruleset advance-tx-on-clauses = (advance-tx-on-off, advance-tx-on-blocked, advance-tx-on-mark, advance-tx-on-start, advance-tx-on-data, advance-tx-on-tail)
+
+pub ruleset arms-on-clauses = (arms-on-idle, arms-on-busy)

@@ -14,6 +14,7 @@ use lib.IntN.{ℤ, pos, negsuc}
 use Rattle.frame.specs.declared.Format.{Format}
 use Rattle.frame.specs.Frame.{has, differ, stop, one-if}
 use Rattle.frame.proofs.Truth.{and-left, and-right}
+use Rattle.frame.proofs.Branches.{by-cond, both-arms, or-right, not-true}
 use Rattle.frame.proofs.Words.{format-good}
 use Rattle.sci.specs.declared.Port.{Port}
 use Rattle.words.specs.declared.Character.{Character}
@@ -32,13 +33,13 @@ use Rattle.words.specs.declared.Tx.{Tx}
 use Rattle.words.specs.declared.Tx.the-variants.{Off, Blocked, Mark, Start, Data, Tail}
 use Rattle.sci.specs.Fields.{with-tx, with-rx, with-input}
 use Rattle.sci.specs.Baud.{format-of, counted, edge-counted, edge-counts, next-fall, boundary}
-use Rattle.words.specs.Receiver.{next-position, armed, sample-at, sample, last-bit, bit-taken, clocked-word, rx-due-on}
+use Rattle.words.specs.Receiver.{next-position, armed, sample-at, sample, last-bit, bit-taken, clocked-word}
 use Rattle.words.specs.Due.{due-now}
 use Rattle.sci.specs.Receiver.{input-level, error-free, arms, arm-receive-on, arm-receive, complete-receive, after-sample, advance-rx-on, advance-rx}
 use Rattle.words.specs.Sender.{level, holds, tx-next}
 use Rattle.sci.specs.Sender.{loaded-on, preloaded-on, loaded, preloaded, preload, drive, begin, start-at, start-loaded, try-start-on, try-start, one-sent, finish-tail, tailed, next-cell, send-step-on, advance-tx}
 use Rattle.sci.specs.Clocked.{with-clock, refresh-sync-clock, take-bit, receive-bit-on, receive-bit, tail-ends-on, tail-ends, bit-out, shift-out-on, shift-out, sync-edge}
-use Rattle.sci.specs.Half.{process-basic, sync, clocked-edge, advance, half-step, halves}
+use Rattle.sci.specs.Half.{process-basic, clocked-edge, advance}
 use Rattle.sci.specs.Registers.{scr-tx, scr-rx, write-scr, write-tdr, status-with, status-write, stored, connect, load-tail-on, load-tail}
 use Rattle.sci.specs.Power.{fresh, reset-registers, reset, with-power}
 use Rattle.sci.specs.Pins.{receive-input}
@@ -48,17 +49,9 @@ use Rattle.words.specs.Ready.{Bounded, Plain, Placed, PlacedIn, LoadedBounded, 
 use Rattle.sci.specs.Ready.{Ready}
 use Rattle.sci.proofs.Steps.{valid-bounded}
 
--- both results of a choice, each where it is chosen
-pub either : {A : Type 0} (K : A → Type 0) (b : Bool) {x y : A} → (b ≡ true → K x) → (b ≡ false → K y) → K (cond b x y)
-either K true f g = f refl
-either K false f g = g refl
-
-pub both : {A : Type 0} (K : A → Type 0) (b : Bool) {x y : A} → K x → K y → K (cond b x y)
-both K b f g = either K b (λ _. f) (λ _. g)
-
 -- the same as a rule for `search`, which then builds the record of each result
 keep-cond : (n : ℕ) (b : Bool) (x y : Port) → Ready n x → Ready n y → Ready n (cond b x y)
-keep-cond n b x y h k = both (Ready n) b h k
+keep-cond n b x y h k = both-arms (Ready n) b _ _ h k
 
 -- registers give no format out of bounds
 pub bounded-now : (p : Port) → Bounded (format-of p)
@@ -107,17 +100,17 @@ module _ {n : ℕ} {p : Port} (r : Ready n p) where
   pub keep-begin : (k : Character) → Bounded (k .format) → Ready n (begin p k)
   unfolding begin
   keep-begin k f =
-      both (Ready n) (k .format .synchronous) (keep-tx r (Data k 0 Never) (f, lit≤ tt))
+      both-arms (Ready n) (k .format .synchronous) _ _ (keep-tx r (Data k 0 Never) (f, lit≤ tt))
       (keep-tx (keep-drive r (level k 0)) (Data k 0 (At (p .half + k .format .«half_bit»))) (f, omega arith))
 
   pub keep-start-at : (k : Character) (next : ℕ) → Bounded (k .format) → Ready n (start-at p k next)
   unfolding start-at
-  keep-start-at k next f = both (Ready n) (eqb next (p .half)) (keep-begin k f) (keep-tx r (Start k next) f)
+  keep-start-at k next f = both-arms (Ready n) (eqb next (p .half)) _ _ (keep-begin k f) (keep-tx r (Start k next) f)
 
   pub keep-start-loaded : (l : Loaded) → LoadedBounded l → Ready n (start-loaded l p)
   keep-start-loaded Nothing f = r
   keep-start-loaded (Next k) f =
-      both (Ready n) (k .format .synchronous) (keep-begin k f) (keep-start-at k (boundary p (k .format .«half_bit»)) f)
+      both-arms (Ready n) (k .format .synchronous) _ _ (keep-begin k f) (keep-start-at k (boundary p (k .format .«half_bit»)) f)
 
   -- a word's last cells, with whatever the holding place has
   pub keep-tailed : (next : Due) → Ready n (tailed (preload p) next)
@@ -129,9 +122,9 @@ module _ {n : ℕ} {p : Port} (r : Ready n p) where
   keep-try-start = go (p .tx) (r .sendable) where
     go : (t : Tx) → Sendable t → Ready n (try-start-on t p)
     go Off s =
-        both (Ready n) (has (p .scr) 0x20 && (holds (p .holding) && (not (format-of p .synchronous) || error-free p)))
+        both-arms (Ready n) (has (p .scr) 0x20 && (holds (p .holding) && (not (format-of p .synchronous) || error-free p))) _ _
         (keep-start-loaded (keep-preloaded r) (loaded p) (loaded-bounded p)) r
-    go (Blocked k) s = both (Ready n) (error-free p) (keep-begin r k s) r
+    go (Blocked k) s = both-arms (Ready n) (error-free p) _ _ (keep-begin r k s) r
     go (Mark next) s = r
     go (Start k next) s = r
     go (Data k cell next) s = r
@@ -141,7 +134,7 @@ module _ {n : ℕ} {p : Port} (r : Ready n p) where
   pub keep-next-cell : (k : Character) (cell : ℕ) → Bounded (k .format) → cell ≤ stop (k .format) → Ready n (next-cell k cell p)
   unfolding next-cell
   keep-next-cell k cell f h =
-      either (Ready n) (eqb cell (stop (k .format)))
+      by-cond (Ready n) (eqb cell (stop (k .format))) _ _
       (λ _. keep-tailed (keep-drive r (level k cell)) (At (p .half + k .format .stops * k .format .«half_bit»)))
       (λ e. keep-tx (keep-drive r (level k cell)) (Data k cell (At (p .half + k .format .«half_bit»)))
       (f, lt-of-le-ne h (eqb-false cell (stop (k .format)) e)))
@@ -150,7 +143,7 @@ module _ {n : ℕ} {p : Port} (r : Ready n p) where
   pub keep-finish-tail : (l : Loaded) → LoadedBounded l → Ready n (finish-tail l p)
   keep-finish-tail Nothing f = keep-try-start (keep-sent r)
   keep-finish-tail (Next k) f =
-      both (Ready n) (k .format .synchronous && not (error-free p)) (keep-tx (keep-sent r) (Blocked k) f) (keep-begin (keep-sent r) k f)
+      both-arms (Ready n) (k .format .synchronous && not (error-free p)) _ _ (keep-tx (keep-sent r) (Blocked k) f) (keep-begin (keep-sent r) k f)
 
   -- due: so a word in data is a start-stop one, below its stop cell
   keep-due : (t : Tx) → Sendable t → due-now (tx-next t) (p .half) ≡ true → Ready n (send-step-on t p)
@@ -167,13 +160,9 @@ module _ {n : ℕ} {p : Port} (r : Ready n p) where
 
   pub keep-advance-tx : Ready n (advance-tx p)
   unfolding advance-tx
-  keep-advance-tx = either (Ready n) (due-now (tx-next (p .tx)) (p .half)) (λ e. keep-send-step e) (λ _. r)
+  keep-advance-tx = by-cond (Ready n) (due-now (tx-next (p .tx)) (p .half)) _ _ (λ e. keep-send-step e) (λ _. r)
 
 -- ---- the receiver
-or-right : (a b : Bool) → (a || b) ≡ false → b ≡ false
-or-right true b e = absurd (false≢true (sym e))
-or-right false b e = e
-
 -- the places from 0 on
 place-cell : (f : Format) (j : ℕ) → f .synchronous ≡ false → j ≤ f .«data» + one-if (f .parity) → position-valid (pos j) f ≡ true
 place-cell f j s h =
@@ -193,16 +182,16 @@ sampled-at : (z : ℤ) (now : Format) (high : Bool) (half : ℕ) (r : Rx) → Bo
 unfolding sample-at
 sampled-at (negsuc (suc (suc n))) now high half r b f s = tt
 sampled-at (negsuc (suc zero)) now high half r b f s =
-    either PlacedBy (high || now .synchronous) (λ _. tt)
+    by-cond PlacedBy (high || now .synchronous) _ _ (λ _. tt)
     (λ e. record { bounded = b; place = ap not (or-right high (now .synchronous) e); plain = or-right high (now .synchronous) e })
 sampled-at (negsuc zero) now high half r b f s =
-    both PlacedBy high tt (record { bounded = f; place = place-cell (r .format) 0 s zero-le; plain = s })
+    both-arms PlacedBy high _ _ tt (record { bounded = f; place = place-cell (r .format) 0 s zero-le; plain = s })
 sampled-at (pos j) now high half r b f s =
     let d : ℕ = r .format .«data» in
     let c : Bool = r .format .parity in
-    either PlacedBy (ltb j d)
+    by-cond PlacedBy (ltb j d) _ _
     (λ e. record { bounded = f; place = place-cell (r .format) (suc j) s (omega (arith, ltb-true j d e)); plain = s })
-    (λ _. either PlacedBy (eqb j d && c)
+    (λ _. by-cond PlacedBy (eqb j d && c) _ _
     (λ e. record {
       bounded = f;
       place = place-cell (r .format) (suc j) s (omega (arith, eqb-true j d (and-left (eqb j d) c e), ap one-if (and-right (eqb j d) c e)));
@@ -228,13 +217,9 @@ module _ {n : ℕ} {p : Port} (r : Ready n p) where
         (and-right (error-free p) (not (format-of p .synchronous) && not (input-level p))
         (and-right (has (p .scr) 0x10) (error-free p && (not (format-of p .synchronous) && not (input-level p))) e))
 
-    not-true : (b : Bool) → not b ≡ true → b ≡ false
-    not-true true e = absurd (false≢true e)
-    not-true false e = refl
-
     go : (x : Receiver) → Ready n (arm-receive-on x p)
     go Idle =
-        either (Ready n) (arms p)
+        by-cond (Ready n) (arms p) _ _
         (λ e. keep-rx r (Busy (armed (format-of p) (next-fall p)))
         (record { bounded = bounded-now p; place = plain e; plain = not-true (format-of p .synchronous) (plain e) }))
         (λ _. r)
@@ -257,7 +242,7 @@ module _ {n : ℕ} {p : Port} (r : Ready n p) where
     go : (x : Receiver) → PlacedIn x → Ready n (advance-rx-on x p)
     go Idle h = r
     go (Busy x) h =
-        either (Ready n) (due-now (x .next) (p .half))
+        by-cond (Ready n) (due-now (x .next) (p .half)) _ _
         (λ e. keep-after-sample (sample (format-of p) (input-level p) (p .half) x)
         (sample-placed (format-of p) (input-level p) (p .half) x (bounded-now p) h (due-start-stop x (x .next) (h .plain) e)))
         (λ _. r)
@@ -286,19 +271,19 @@ module _ {n : ℕ} {p : Port} (r : Ready n p) where
   pub keep-take-bit : (x : Rx) → Placed x → x .format .synchronous ≡ true → Ready n (take-bit p x)
   unfolding take-bit
   keep-take-bit x h s =
-      either (Ready n) (last-bit (x .position)) (λ _. keep-complete-receive (keep-rx r Idle tt) (bit-taken (input-level p) x))
+      by-cond (Ready n) (last-bit (x .position)) _ _ (λ _. keep-complete-receive (keep-rx r Idle tt) (bit-taken (input-level p) x))
       (λ e. keep-rx r (Busy (bit-taken (input-level p) x))
       (record { bounded = h .bounded; place = next-bit (x .position) (x .format) s (h .place) e; plain = h .plain }))
 
   pub keep-receive-bit : Ready n (receive-bit p)
   unfolding receive-bit
-  keep-receive-bit = both (Ready n) (has (p .scr) 0x10 && error-free p) (go (p .rx) (r .placed)) r where
+  keep-receive-bit = both-arms (Ready n) (has (p .scr) 0x10 && error-free p) _ _ (go (p .rx) (r .placed)) r where
     go : (x : Receiver) → PlacedIn x → Ready n (receive-bit-on x p)
     go Idle h =
-        either (Ready n) (format-of p .synchronous)
+        by-cond (Ready n) (format-of p .synchronous) _ _
         (λ s. keep-take-bit (clocked-word (format-of p)) (clocked-placed (format-of p) (bounded-now p) s) s)
         (λ _. r)
-    go (Busy x) h = either (Ready n) (x .format .synchronous) (λ s. keep-take-bit x h s) (λ _. r)
+    go (Busy x) h = by-cond (Ready n) (x .format .synchronous) _ _ (λ s. keep-take-bit x h s) (λ _. r)
 
   pub keep-tail-ends : Ready n (tail-ends p)
   unfolding tail-ends
@@ -315,7 +300,7 @@ module _ {n : ℕ} {p : Port} (r : Ready n p) where
   pub keep-bit-out : (k : Character) (cell : ℕ) → Bounded (k .format) → cell ≤ 7 → Ready n (bit-out k cell p)
   unfolding bit-out
   keep-bit-out k cell f h =
-      either (Ready n) (eqb cell 7) (λ _. keep-tailed (keep-drive r (level k cell)) Never)
+      by-cond (Ready n) (eqb cell 7) _ _ (λ _. keep-tailed (keep-drive r (level k cell)) Never)
       (λ e. keep-tx (keep-drive r (level k cell)) (Data k (suc cell) Never) (f, lt-of-le-ne h (eqb-false cell 7 e)))
 
   pub keep-shift-out : Ready n (shift-out p)
@@ -333,7 +318,7 @@ module _ {n : ℕ} {p : Port} (r : Ready n p) where
 module _ {n : ℕ} {p : Port} (r : Ready n p) where
   pub keep-sync-edge : (high : Bool) → Ready n (sync-edge high p)
   unfolding sync-edge
-  keep-sync-edge high = both (Ready n) high (keep-tail-ends (keep-receive-bit r)) (keep-shift-out r)
+  keep-sync-edge high = both-arms (Ready n) high _ _ (keep-tail-ends (keep-receive-bit r)) (keep-shift-out r)
 
 -- ---- one half
 module _ {n : ℕ} {p : Port} (r : Ready n p) where
@@ -344,7 +329,7 @@ module _ {n : ℕ} {p : Port} (r : Ready n p) where
   pub keep-clocked-edge : Ready n (clocked-edge p)
   unfolding clocked-edge
   keep-clocked-edge =
-      both (Ready n) (due-now (p .«sync_next») (p .half)) (keep-sync-edge (keep-clock r Never (not (p .sck))) (not (p .sck))) r
+      both-arms (Ready n) (due-now (p .«sync_next») (p .half)) _ _ (keep-sync-edge (keep-clock r Never (not (p .sck))) (not (p .sck))) r
 
   -- a counted edge, also one of the internal clock, at the next half
   pub keep-edge-counted : (high : Bool) → n < limit → Ready (suc n) (edge-counted p high)
@@ -355,24 +340,9 @@ module _ {n : ℕ} {p : Port} (r : Ready n p) where
   pub keep-counted : n < limit → Ready (suc n) (counted p)
   keep-counted h = keep-edge-counted r (not (p .high)) h
 
-  pub keep-sync : Ready n (sync p)
-  unfolding sync
-  keep-sync = both (Ready n) (rx-due-on (p .rx) (p .half)) (keep-refresh-sync-clock (keep-process-basic r)) r
-
   pub keep-advance : Ready n (advance p)
   unfolding advance
   keep-advance = keep-refresh-sync-clock (keep-clocked-edge (keep-process-basic r))
-
-module _ {n : ℕ} {p : Port} (r : Ready n p) (h : n < limit) where
-  pub keep-half-step : Ready (suc n) (half-step p)
-  unfolding half-step
-  keep-half-step = keep-advance (keep-sync (keep-counted r h))
-
--- the half that a loop adds comes last, the definition's first
-pub halves-last : (k : ℕ) (p : Port) → halves (suc k) p ≡ half-step (halves k p)
-unfolding halves
-halves-last zero p = refl
-halves-last (suc k) p = halves-last k (half-step p)
 
 -- ---- the registers
 module _ {n : ℕ} {p : Port} (r : Ready n p) where
@@ -403,7 +373,7 @@ module _ {n : ℕ} {p : Port} (r : Ready n p) where
     go (Mark next) = r
     go (Start k next) = r
     go (Data k cell next) = r
-    go (Tail Nothing next) = both (Ready n) (holds (p .holding)) (keep-tailed r next) r
+    go (Tail Nothing next) = both-arms (Ready n) (holds (p .holding)) _ _ (keep-tailed r next) r
     go (Tail (Next k) next) = r
 
 module _ {n : ℕ} {p : Port} (r : Ready n p) where
@@ -421,7 +391,7 @@ module _ {n : ℕ} {p : Port} (r : Ready n p) where
   pub keep-receive-input : (level : Bool) → Ready n (receive-input level p)
   unfolding receive-input
   keep-receive-input level =
-      both (Ready n) (differ level (p .input)) (keep-arm-receive (keep-same r (with-input p level) refl refl refl)) r
+      both-arms (Ready n) (differ level (p .input)) _ _ (keep-arm-receive (keep-same r (with-input p level) refl refl refl)) r
 
 -- ---- steps after which the half is the port's own: a counted edge adds one, a reset begins again at 0
 abbrev Own : Port → Type 0
@@ -465,9 +435,6 @@ sync-edge-ready r p high e h = result r (sync-edge high p) e (keep-sync-edge h h
 pub process-basic-ready : (r p : Port) → r ≡ process-basic p → Ready (p .half) p → Ready (r .half) r
 process-basic-ready r p e h = result r (process-basic p) e (keep-process-basic h)
 
-pub sync-ready : (r p : Port) → r ≡ sync p → Ready (p .half) p → Ready (r .half) r
-sync-ready r p e h = result r (sync p) e (keep-sync h)
-
 pub clocked-edge-ready : (r p : Port) → r ≡ clocked-edge p → Ready (p .half) p → Ready (r .half) r
 clocked-edge-ready r p e h = result r (clocked-edge p) e (keep-clocked-edge h)
 
@@ -504,21 +471,12 @@ pub reset-half : (r p : Port) (module-on reset-on : Bool) → r ≡ reset module
 unfolding reset reset-registers fresh
 reset-half r p module-on reset-on e h =
     half-as r (reset module-on reset-on p) e
-    (both (λ (x : Port). x .half ≤ limit) (not module-on && p .«module») zero-le
-    (both (λ (x : Port). x .half ≤ limit) (reset-on && not (p .«reset_mode»)) zero-le h))
-
--- ---- the loop over the halves, which adds one to the count as i + 1
-pub halves-next : (r p q : Port) (i : ℕ) → r ≡ half-step p → p ≡ halves i q → r ≡ halves (i + 1) q
-halves-next r p q i e h = e ∙ ap half-step h ∙ sym (halves-last i q) ∙ ap (λ (m : ℕ). halves m q) (sym (add-one i))
-
-pub half-step-next : (r p : Port) (m i : ℕ) → r ≡ half-step p → Ready (m + i) p → m + i < limit → Ready (m + (i + 1)) r
-half-step-next r p m i e h l =
-    let q : suc (m + i) ≡ m + (i + 1) = omega arith in
-    subst⁻¹ (Ready (m + (i + 1))) e (subst (λ (k : ℕ). Ready k (half-step p)) q (keep-half-step h l))
+    (both-arms (λ (x : Port). x .half ≤ limit) (not module-on && p .«module») _ _ zero-le
+    (both-arms (λ (x : Port). x .half ≤ limit) (reset-on && not (p .«reset_mode»)) _ _ zero-le h))
 
 -- ---- rulesets for a `requires`; a longer list of laws exhausts the search
 -- the calls of this crate that ask for a ready port, or a part of one
-pub ruleset ready = (ready-half, ready-tx, ready-rx, advance-tx-ready, advance-rx-ready, arm-receive-ready, process-basic-ready, receive-bit-ready, sync-ready, clocked-edge-ready, sync-edge-ready, edge-counted-ready, counts-below, with-clock-ready, load-tail-ready, try-start-ready, stored-ready, connect-ready, receive-input-ready)
+pub ruleset ready = (ready-half, ready-tx, ready-rx, advance-tx-ready, advance-rx-ready, arm-receive-ready, process-basic-ready, receive-bit-ready, clocked-edge-ready, sync-edge-ready, edge-counted-ready, counts-below, with-clock-ready, load-tail-ready, try-start-ready, stored-ready, connect-ready, receive-input-ready)
 
 -- the longest chain of calls, in `external_edge`, wants fewer
 pub ruleset edges = (ready-half, counts-below, edge-counted-ready, process-basic-ready, sync-edge-ready)

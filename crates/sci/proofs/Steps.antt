@@ -1,7 +1,7 @@
 -- What the proofs of the port's steps hand to `search`, beside the generated clauses and congruences.
 -- Assumes nothing.
 use mathlib.Core.Path.{_≡_, refl, sym, ap, ap₂, _∙_, subst, subst⁻¹}
-use mathlib.Core.Bool.{Bool, true, false, not, cond, _&&_}
+use mathlib.Core.Bool.{Bool, true, false, not, cond, _&&_, false≢true}
 use Prim.Native.Nat.{ℕ, zero, suc, _+_, _-_, _*_, _/_, _%_, _^_, _≤_, zero-le}
 use native.Mathlib.Nat.{mod-le, le-trans, mul-le-mul-left, mul-le-mul-right}
 use native.Mathlib.Numerals.{add-one}
@@ -34,14 +34,15 @@ use Rattle.words.specs.declared.Loaded.the-variants.{Next}
 use Rattle.sci.specs.declared.Preloaded.{Preloaded}
 use Rattle.words.specs.declared.Rx.{Rx}
 use Rattle.words.specs.declared.Receiver.{Receiver}
-use Rattle.words.specs.declared.Receiver.the-variants.{Busy}
+use Rattle.words.specs.declared.Receiver.the-variants.{Idle, Busy}
 use Rattle.words.specs.declared.Sampled.the-variants.{Onward, Whole}
 use Rattle.words.specs.declared.Tx.{Tx}
 use Rattle.words.specs.declared.Tx.the-variants.{Off, Blocked, Mark, Start, Data, Tail}
-use Rattle.sci.specs.Receiver.{arm-receive}
-use Rattle.sci.specs.Fields.{with-tx}
-use Rattle.sci.specs.Baud.{format-of, boundary}
-use Rattle.words.specs.Receiver.{clocked-word}
+use Rattle.sci.specs.Receiver.{arms, arm-receive-on, arm-receive}
+use Rattle.sci.specs.Skip.{arms-on}
+use Rattle.sci.specs.Fields.{with-tx, with-rx}
+use Rattle.sci.specs.Baud.{format-of, next-fall, boundary}
+use Rattle.words.specs.Receiver.{armed, clocked-word}
 use Rattle.sci.specs.Clocked.{tail-ends-on, shift-out-on, refresh-sync-clock, sync-edge}
 use Rattle.sci.specs.Registers.{load-tail-on, sender-on}
 use Rattle.sci.specs.Sender.{try-start-on, loaded, preloaded, preload, start-loaded, tailed, one-sent}
@@ -105,6 +106,15 @@ try-start-else (Start k n) p z h e = e
 try-start-else (Data k c n) p z h e = e
 try-start-else (Tail l n) p z h e = e
 
+-- a word begins, or none does
+pub arm-t : (x : Receiver) (p z : Port) → arms-on x p ≡ true → z ≡ with-rx p (Busy (armed (format-of p) (next-fall p))) → z ≡ arm-receive-on x p
+arm-t Idle p z h e = cond-t (arms p) _ p z h e
+arm-t (Busy r) p z h e = absurd (false≢true h)
+
+pub arm-f : (x : Receiver) (p z : Port) → arms-on x p ≡ false → z ≡ p → z ≡ arm-receive-on x p
+arm-f Idle p z h e = cond-f (arms p) _ p z h e
+arm-f (Busy r) p z h e = e
+
 -- ---- what the state is known to hold in an arm
 pub off-sendable : (t : Tx) → t ≡ Off → Sendable t
 off-sendable t h = subst⁻¹ Sendable h tt
@@ -156,7 +166,7 @@ pub ruleset held = (off-sendable, blocked-bounded, start-bounded, data-bounded, 
 pub valid-bounded : (f : Format) → format-valid f ≡ true → Bounded f
 valid-bounded f h =
     let s = shape f h in
-    record { data≤8 = s .wide; stops≤2 = s .two; half≤32 = s .short; half≥16 = s .long }
+    record { data≤8 = s .wide; stops≥1 = s .one; stops≤2 = s .two; half≤32 = s .short; half≥16 = s .long }
 
 pub next-eq : (a b : Character) → a ≡ b → Next a ≡ Next b
 next-eq a b e = ap Next e
@@ -206,7 +216,7 @@ uncounted-some (suc n) p z h e = e
 cells≤ : (f : Format) → Bounded f → cells f ≤ 12
 cells≤ f h = omega (arith, one-if≤ (f .parity), h .data≤8, h .stops≤2)
 
-product≤ : (m n a b : ℕ) → m ≤ a → n ≤ b → m * n ≤ a * b
+pub product≤ : (m n a b : ℕ) → m ≤ a → n ≤ b → m * n ≤ a * b
 product≤ m n a b hm hn = le-trans (mul-le-mul-right n hm) (mul-le-mul-left a hn)
 
 -- the stop cells of a word, and their end

@@ -24,6 +24,7 @@ use Rattle.sci.specs.Power.{carried, reset-registers, reset, with-power,
 use Rattle.sci.specs.Receiver.{arm-receive-on, arm-receive, complete-receive, after-sample, advance-rx-on, advance-rx}
 use Rattle.sci.specs.Registers.{read, sender-off, sender-on, scr-tx, scr-rx, write-scr, write-tdr, status-with, status-write, stored, connect, fill-tail, load-tail-on, load-tail, settled, write}
 use Rattle.sci.specs.Sender.{preloaded-on, preloaded, preload, drive, begin, start-at, start-loaded, try-start-on, try-start, one-sent, finish-tail, tailed, next-cell, send-step-on, advance-tx-on, advance-tx}
+use Rattle.sci.specs.Skip.{counted-by}
 
 pub counted-of : (z : Port) (x0 y0 : Port) → z ≡ counted x0 → x0 ≡ y0 → z ≡ counted y0
 counted-of z x0 y0 e h0 = e ∙ (λ j. counted (h0 j))
@@ -246,3 +247,6 @@ advance-tx-on-of z x0 y0 x1 y1 e h0 h1 = e ∙ (λ j. advance-tx-on (h0 j) (h1 j
 
 pub advance-tx-of : (z : Port) (x0 y0 : Port) → z ≡ advance-tx x0 → x0 ≡ y0 → z ≡ advance-tx y0
 advance-tx-of z x0 y0 e h0 = e ∙ (λ j. advance-tx (h0 j))
+
+pub counted-by-of : (z : Port) (x0 y0 : ℕ) (x1 y1 : Port) → z ≡ counted-by x0 x1 → x0 ≡ y0 → x1 ≡ y1 → z ≡ counted-by y0 y1
+counted-by-of z x0 y0 x1 y1 e h0 h1 = e ∙ (λ j. counted-by (h0 j) (h1 j))

@@ -4,6 +4,7 @@ pub mod Receiver
 pub mod Sender
 pub mod Clocked
 pub mod Half
+pub mod Skip
 pub mod Registers
 pub mod Power
 pub mod Pins

@@ -13,7 +13,8 @@ ghost use Rattle.sci.specs.Receiver.{input-level, arms, arm-receive, com
 ghost use Rattle.words.specs.Sender.{level};
 ghost use Rattle.sci.specs.Sender.{character, preload, drive, begin, start-at, start-loaded, try-start-on, try-start, one-sent, finish-tail, tailed, next-cell, send-step-on, advance-tx};
 ghost use Rattle.sci.specs.Clocked.{sync-needed, refresh-sync-clock, take-bit, receive-bit-on, receive-bit, tail-ends, bit-out, shift-out, sync-edge};
-ghost use Rattle.sci.specs.Half.{process-basic, sync, clocked-edge, advance, half-step, halves, inside, uncounted};
+ghost use Rattle.sci.specs.Half.{process-basic, clocked-edge, advance, halves, inside, uncounted};
+ghost use Rattle.sci.specs.Skip.{arms-on, clock-fresh, deadline, counted-by};
 ghost use Rattle.sci.specs.Registers.{handles, peek, read, sender-off, sender-on, scr-tx, write-scr, write-tdr, status-write, stored, connect, load-tail, settled, write};
 ghost use Rattle.sci.specs.Power.{fresh, carried, reset-registers, reset, set-power};
 ghost use Rattle.sci.specs.Pins.{receive-input, external-edge, pins-change, transmit-level, clock-level, clock-drive, pins, interrupt, level-number};
@@ -1054,6 +1055,17 @@ impl Port {
         (self.scr & 0x10 != 0) & (!(self.ssr & 0x38 != 0) & (!format.synchronous & !level))
     }
 
+    // Whether a word begins: none is in the receiver, and the line asks for one.
+    fn arms_now(self) -> bool
+        ensures { λ r. ⌜ r ≡ arms-on (self .rx) self ⌝ }
+    {
+        let receiver = self.rx;
+        let Receiver::Idle = receiver else {
+            return false;
+        };
+        self.arms()
+    }
+
     fn armed(self) -> Port
         requires { ⌜ self .half ≤ limit ⌝ }
         ensures { λ r. ⌜ r ≡ with-rx self (Busy (armed (format-of self) (next-fall self))) ⌝ }
@@ -1066,11 +1078,7 @@ impl Port {
         requires { ⌜ self .half ≤ limit ⌝ }
         ensures { λ r. ⌜ r ≡ arm-receive self ⌝ }
     {
-        let receiver = self.rx;
-        let Receiver::Idle = receiver else {
-            return self;
-        };
-        if self.arms() {
+        if self.arms_now() {
             return self.armed();
         }
         self
@@ -1321,17 +1329,6 @@ impl Port {
         self.advance_tx().advance_rx().arm_receive()
     }
 
-    fn sync(self) -> Port
-        requires { ⌜ Ready (self .half) self ⌝ }
-        ensures { λ r. ⌜ r ≡ sync self ⌝ }
-    {
-        let receiver = self.rx;
-        if receiver.due(self.half) {
-            return self.process_basic().refresh_sync_clock();
-        }
-        self
-    }
-
     // The clock of clocked form toggles, at its due half.
     fn clocked_edge(mut self) -> Port
         requires { ⌜ Ready (self .half) self ⌝ }
@@ -1349,30 +1346,72 @@ impl Port {
         self.with_sync_next(Due::Never).sync_edge(high)
     }
 
+    // Whether the clock of clocked form is as a refresh leaves it.
+    fn clock_fresh(self) -> bool
+        ensures { λ r. ⌜ r ≡ clock-fresh self ⌝ }
+    {
+        let next = self.sync_next;
+        let absent = next.absent();
+        if self.sync_needed() {
+            return !absent;
+        }
+        absent & self.sck
+    }
+
+    // The work of a half of the internal clock, once it is counted.
     fn advance(self) -> Port
-        requires { ⌜ Ready (self .half) self ⌝ }
+        requires { ⌜ Ready (self .half) self × (external self ≡ false) ⌝ }
         ensures { λ r. ⌜ r ≡ advance self ⌝ }
     {
-        self.process_basic().clocked_edge().refresh_sync_clock()
+        let port = self.process_basic().clocked_edge();
+        if port.clock_fresh() {
+            return port;
+        }
+        port.refresh_sync_clock()
     }
 
-    // One half of the internal clock.
-    fn half(self) -> Port
-        requires { ⌜ Ready (self .half) self × (self .half < limit) ⌝ }
-        ensures { λ r. ⌜ r ≡ half-step self ⌝ }
+    // The halves up to the next one that may do more than count, at most left.
+    fn deadline(self, left: u32) -> u32
+        ensures { λ r. ⌜ r ≡ deadline left self ⌝ }
     {
-        self.edge_counted(!self.high).sync().advance()
+        if self.arms_now() {
+            return 1;
+        }
+        if self.clock_fresh() {
+            let tx = self.tx;
+            let sends = tx.next();
+            let receiver = self.rx;
+            let receives = receiver.next();
+            let clocks = self.sync_next;
+            let left = sends.within(self.half, left);
+            let left = receives.within(self.half, left);
+            return clocks.within(self.half, left);
+        }
+        1
     }
 
+    // k halves counted at once.
+    fn counted_by(mut self, k: u32) -> Port
+        requires { ⌜ self .half + k ≤ limit ⌝ }
+        ensures { λ r. ⌜ r ≡ counted-by k self ⌝ }
+    {
+        self.half = self.half + k;
+        self.high = self.high ^ (k % 2 != 0);
+        self.edge = true;
+        self
+    }
+
+    // n halves of the internal clock. From one at which something may happen to the next they are counted at once.
     fn halves(self, n: u32) -> Port
-        requires { ⌜ Ready (self .half) self × (self .half + n ≤ limit) ⌝ }
+        requires { ⌜ Ready (self .half) self × (self .half + n ≤ limit) × (external self ≡ false) ⌝ }
         ensures { λ r. ⌜ r ≡ halves n self ⌝ }
     {
         let mut port = self;
-        let mut i: u32 = 0;
-        while i < n {
-            port = port.half();
-            i = i + 1;
+        let mut left = n;
+        while left > 0 {
+            let k = port.deadline(left);
+            port = port.counted_by(k).advance();
+            left = left - k;
         }
         port
     }

@@ -17,9 +17,9 @@ use Rattle.words.specs.declared.Tx.{Tx}
 use Rattle.words.specs.declared.Tx.the-variants.{Off, Blocked, Mark, Start, Data, Tail}
 use Rattle.words.specs.declared.Receiver.{Receiver}
 use Rattle.words.specs.declared.Receiver.the-variants.{Idle, Busy}
-use Rattle.words.specs.Due.{absent, due-now, due-or}
+use Rattle.words.specs.Due.{absent, due-now, due-or, within}
 use Rattle.words.specs.Ready.{Plain, PlacedIn, LoadedBounded, Below, Sendable}
-use Rattle.words.specs.Receiver.{rx-clocked, rx-due-on, completing-on}
+use Rattle.words.specs.Receiver.{rx-next, rx-clocked, rx-due-on, completing-on}
 use Rattle.words.specs.Sender.{holds, tx-next, tx-clocked}
 use Rattle.words.specs.Valid.{due-either, due-by, loaded-valid, tx-valid, rx-valid}
 
@@ -40,6 +40,12 @@ due-or-never x y0 z h e = e ∙ sym (ap (λ (t : Due). due-or t y0) h)
 
 pub due-or-at : (x : Due) (c0 : ℕ) (y0 : ℕ) (z : Due) → x ≡ At c0 → z ≡ due-or (At c0) y0 → z ≡ due-or x y0
 due-or-at x c0 y0 z h e = e ∙ sym (ap (λ (t : Due). due-or t y0) h)
+
+pub within-never : (x : Due) (y0 : ℕ) (y1 : ℕ) (z : ℕ) → x ≡ Never → z ≡ within Never y0 y1 → z ≡ within x y0 y1
+within-never x y0 y1 z h e = e ∙ sym (ap (λ (t : Due). within t y0 y1) h)
+
+pub within-at : (x : Due) (c0 : ℕ) (y0 : ℕ) (y1 : ℕ) (z : ℕ) → x ≡ At c0 → z ≡ within (At c0) y0 y1 → z ≡ within x y0 y1
+within-at x c0 y0 y1 z h e = e ∙ sym (ap (λ (t : Due). within t y0 y1) h)
 
 pub Plain-never : (x : Due) (y0 : Bool) (z : Type 0) → x ≡ Never → z ≡ Plain Never y0 → z ≡ Plain x y0
 Plain-never x y0 z h e = e ∙ sym (ap (λ (t : Due). Plain t y0) h)
@@ -82,6 +88,12 @@ Sendable-data x c0 c1 c2 z h e = e ∙ sym (ap (λ (t : Tx). Sendable t) h)
 
 pub Sendable-tail : (x : Tx) (c0 : Loaded) (c1 : Due) (z : Type 0) → x ≡ Tail c0 c1 → z ≡ Sendable (Tail c0 c1) → z ≡ Sendable x
 Sendable-tail x c0 c1 z h e = e ∙ sym (ap (λ (t : Tx). Sendable t) h)
+
+pub rx-next-idle : (x : Receiver) (z : Due) → x ≡ Idle → z ≡ rx-next Idle → z ≡ rx-next x
+rx-next-idle x z h e = e ∙ sym (ap (λ (t : Receiver). rx-next t) h)
+
+pub rx-next-busy : (x : Receiver) (c0 : Rx) (z : Due) → x ≡ Busy c0 → z ≡ rx-next (Busy c0) → z ≡ rx-next x
+rx-next-busy x c0 z h e = e ∙ sym (ap (λ (t : Receiver). rx-next t) h)
 
 pub rx-clocked-idle : (x : Receiver) (z : Bool) → x ≡ Idle → z ≡ rx-clocked Idle → z ≡ rx-clocked x
 rx-clocked-idle x z h e = e ∙ sym (ap (λ (t : Receiver). rx-clocked t) h)
@@ -191,6 +203,8 @@ pub ruleset due-now-clauses = (due-now-never, due-now-at)
 
 pub ruleset due-or-clauses = (due-or-never, due-or-at)
 
+pub ruleset within-clauses = (within-never, within-at)
+
 pub ruleset Plain-clauses = (Plain-never, Plain-at)
 
 pub ruleset PlacedIn-clauses = (PlacedIn-idle, PlacedIn-busy)
@@ -200,6 +214,8 @@ pub ruleset LoadedBounded-clauses = (LoadedBounded-nothing, LoadedBounded-next)
 pub ruleset Below-clauses = (Below-never, Below-at)
 
 pub ruleset Sendable-clauses = (Sendable-off, Sendable-blocked, Sendable-mark, Sendable-start, Sendable-data, Sendable-tail)
+
+pub ruleset rx-next-clauses = (rx-next-idle, rx-next-busy)
 
 pub ruleset rx-clocked-clauses = (rx-clocked-idle, rx-clocked-busy)
 

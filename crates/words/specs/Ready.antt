@@ -23,6 +23,7 @@ use Rattle.words.specs.Valid.{position-valid}
 -- a format's lengths
 pub record Bounded (f : Format) : Type 0 where
   pub data≤8 : f .«data» ≤ 8
+  pub stops≥1 : 1 ≤ f .stops
   pub stops≤2 : f .stops ≤ 2
   pub half≤32 : f .«half_bit» ≤ 32
   pub half≥16 : 16 ≤ f .«half_bit»

@@ -7,6 +7,7 @@ use lib.Bits.{bitOr}
 use lib.IntN.{ℤ, pos, negsuc}
 use Rattle.frame.specs.declared.Format.{Format}
 use Rattle.frame.specs.Frame.{differ, one-if}
+use Rattle.words.specs.declared.Due.{Due}
 use Rattle.words.specs.declared.Due.the-variants.{Never, At}
 use Rattle.words.specs.declared.Rx.{Rx}
 use Rattle.words.specs.declared.Receiver.{Receiver}
@@ -42,10 +43,17 @@ abbrev pub stepped : ℕ → ℤ → ℕ → Bool → ℕ → Rx → Rx
 stepped half z value parity error r =
     record { format = r .format; value = value; position = next-position z; parity = parity; error = error; next = At (half + r .format .«half_bit») }
 
--- the first stop cell; framing error if it is not at mark
+-- the word's errors after the parity cell, which makes the ones among data and parity even, or odd; and after the first stop cell, which is at mark
+abbrev pub parity-error : Bool → Rx → ℕ
+parity-error high r = cond (differ high (differ (r .parity) (r .format .odd))) (bitOr (r .error) 8) (r .error)
+
+abbrev pub framing-error : Bool → Rx → ℕ
+framing-error high r = cond high (r .error) (bitOr (r .error) 0x10)
+
+-- the first stop cell
 abbrev pub stopped : Bool → Rx → Rx
 stopped high r =
-    record { format = r .format; value = r .value; position = r .position; parity = r .parity; error = cond high (r .error) (bitOr (r .error) 0x10); next = r .next }
+    record { format = r .format; value = r .value; position = r .position; parity = r .parity; error = framing-error high r; next = r .next }
 
 -- a sample at a position: -2 and -1 drop a word whose line is back at mark, then come data cells, the parity cell and the first stop cell
 unfoldable pub sample-at : ℤ → Format → Bool → ℕ → Rx → Sampled
@@ -56,7 +64,7 @@ sample-at (pos j) now high half r =
     cond (ltb j (r .format .«data»))
     (Onward (stepped half (pos j) (cond high (bitOr (r .value) (bit-at (pos j))) (r .value)) (differ (r .parity) high) (r .error) r))
     (cond (eqb j (r .format .«data») && r .format .parity)
-    (Onward (stepped half (pos j) (r .value) (r .parity) (cond (differ high (differ (r .parity) (r .format .odd))) (bitOr (r .error) 8) (r .error)) r))
+    (Onward (stepped half (pos j) (r .value) (r .parity) (parity-error high r) r))
     (Whole (stopped high r)))
 
 abbrev pub sample : Format → Bool → ℕ → Rx → Sampled
@@ -76,6 +84,11 @@ last-bit (pos j) = eqb j 7
 last-bit (negsuc j) = false
 
 -- ---- the receiver
+-- the half on which it acts next
+abbrev pub rx-next : Receiver → Due
+rx-next Idle = Never
+rx-next (Busy r) = r .next
+
 abbrev pub rx-clocked : Receiver → Bool
 rx-clocked Idle = false
 rx-clocked (Busy r) = r .format .synchronous

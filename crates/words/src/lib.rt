@@ -1,12 +1,10 @@
 // The words that the port sends and receives: what the sender, the receiver and the holding place of sci.rs hold (document 01).
 ghost use mathlib.Core.Path.{_≡_};
-ghost use mathlib.Core.Bool.{cond, _&&_};
+ghost use mathlib.Core.Bool.{_&&_};
 ghost use Prim.Native.Nat.{_≤_};
-ghost use lib.Bits.{bitOr};
-ghost use Rattle.frame.specs.Frame.{differ};
-ghost use Rattle.words.specs.Due.{absent, due-now, due-or};
+ghost use Rattle.words.specs.Due.{absent, due-or, within};
 ghost use Rattle.words.specs.Sender.{holds, tx-next, tx-clocked};
-ghost use Rattle.words.specs.Receiver.{armed, stopped, clocked-word, last-bit, rx-clocked, rx-due-on};
+ghost use Rattle.words.specs.Receiver.{armed, parity-error, framing-error, stopped, clocked-word, last-bit, rx-next, rx-clocked};
 ghost use Rattle.words.specs.Valid.{due-at, due-either, due-by, character-valid, loaded-valid, cell-valid, tx-valid, position-valid, word-in-place, rx-valid};
 ghost use Rattle.words.specs.Ready.{falling, starting};
 use frame::Format;
@@ -81,23 +79,13 @@ pub enum Sampled {
 }
 
 impl Due {
-    fn absent(self) -> bool
+    pub fn absent(self) -> bool
         ensures { λ r. ⌜ r ≡ absent self ⌝ }
     {
         let Due::At(_) = self else {
             return true;
         };
         false
-    }
-
-    // Whether this is the half.
-    fn now(self, half: u32) -> bool
-        ensures { λ r. ⌜ r ≡ due-now self half ⌝ }
-    {
-        let Due::At(n) = self else {
-            return false;
-        };
-        n == half
     }
 
     // The half planned, or else this one.
@@ -108,6 +96,22 @@ impl Due {
             return Due::At(half);
         };
         Due::At(n)
+    }
+
+    // The halves up to a due half ahead, at most left.
+    pub fn within(self, half: u32, left: u32) -> u32
+        ensures { λ r. ⌜ r ≡ within self half left ⌝ }
+    {
+        let Due::At(n) = self else {
+            return left;
+        };
+        if half < n {
+            if n - half < left {
+                return n - half;
+            }
+            return left;
+        }
+        left
     }
 }
 
@@ -212,7 +216,7 @@ impl Rx {
     }
 
     pub fn parity_error(self, high: bool) -> u8
-        ensures { λ r. ⌜ r ≡ cond (differ high (differ (self .parity) (self .format .odd))) (bitOr (self .error) 8) (self .error) ⌝ }
+        ensures { λ r. ⌜ r ≡ parity-error high self ⌝ }
     {
         let odd = self.format.odd;
         if high ^ (self.parity ^ odd) {
@@ -222,7 +226,7 @@ impl Rx {
     }
 
     fn framing_error(self, high: bool) -> u8
-        ensures { λ r. ⌜ r ≡ cond high (self .error) (bitOr (self .error) 0x10) ⌝ }
+        ensures { λ r. ⌜ r ≡ framing-error high self ⌝ }
     {
         if high {
             return self.error;
@@ -251,16 +255,14 @@ impl Receiver {
         rx.format.synchronous
     }
 
-    // Whether a start-stop receiver is due now.
-    pub fn due(self, half: u32) -> bool
-        ensures { λ r. ⌜ r ≡ rx-due-on self half ⌝ }
+    // The half on which the receiver acts next.
+    pub fn next(self) -> Due
+        ensures { λ r. ⌜ r ≡ rx-next self ⌝ }
     {
         let Receiver::Busy(rx) = self else {
-            return false;
+            return Due::Never;
         };
-        let next = rx.next;
-        let due = next.now(half);
-        !rx.format.synchronous & due
+        rx.next
     }
 }
 

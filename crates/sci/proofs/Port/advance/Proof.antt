@@ -1,5 +1,6 @@
 use Rattle.sci.proofs.Keep.{ready}
 use Rattle.sci.proofs.Under.{clocked-edge-of, refresh-sync-clock-of}
+use Rattle.sci.proofs.Skip.{advance-fresh}
 use Rattle.sci.specs.Half.{advance}
 use borrow.Author.Needs.{needs}
 use Rattle.sci.proofs.Port.advance.Statement.{statement}
@@ -12,5 +13,7 @@ advance-spec =
     (tie.spec
     (λ c κs. search needs)
     (λ c κs. search (ready, needs) depth 10)
+    (λ c κs. search needs)
+    (λ c. search (advance-fresh, needs) depth 10)
     (λ c κs. search (ready, needs) depth 10)
     (λ c. search (refresh-sync-clock-of, clocked-edge-of, needs) depth 10))

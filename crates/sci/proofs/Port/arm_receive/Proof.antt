@@ -1,6 +1,6 @@
-use Rattle.frame.proofs.Choose.{choose}
-use Rattle.sci.proofs.Clauses.{arm-receive-on-clauses}
+use Rattle.frame.proofs.Choose.{flag-t, flag-f}
 use Rattle.sci.specs.Receiver.{arm-receive}
+use Rattle.sci.proofs.Steps.{arm-t, arm-f}
 use borrow.Author.Needs.{needs}
 use Rattle.sci.proofs.Port.arm_receive.Statement.{statement}
 use Rattle.sci.proofs.Port.arm_receive.Tie as tie
@@ -10,10 +10,7 @@ unfolding arm-receive
 arm-receive-spec =
     tie.close
     (tie.spec
-    (λ c. search needs)
-    (λ c. search needs)
-    (λ c. search (arm-receive-on-clauses, choose) depth 10)
     (λ c κs. search needs)
     (λ c κs. search needs)
-    (λ c. search (arm-receive-on-clauses, choose) depth 10)
-    (λ c. search (arm-receive-on-clauses, choose) depth 10))
+    (λ c. search (arm-t, flag-t, needs) depth 10)
+    (λ c. search (arm-f, flag-f, needs) depth 10))

@@ -14,15 +14,15 @@ use Rattle.words.specs.declared.Loaded.{Loaded}
 use Rattle.words.specs.declared.Loaded.the-variants.{Nothing, Next}
 use Rattle.words.specs.declared.Tx.{Tx}
 use Rattle.words.specs.declared.Tx.the-variants.{Off, Blocked, Mark, Start, Data, Tail}
 use Rattle.sci.specs.Fields.{with-tx, with-ssr, with-holding, with-uart, with-bit-start, with-transmitted}
 use Rattle.sci.specs.Baud.{format-of, boundary}
 use Rattle.words.specs.Due.{due-now}
 use Rattle.sci.specs.Receiver.{error-free}
 use Rattle.words.specs.Sender.{level, holds, tx-next}
 use Rattle.sci.specs.Sender.{loaded, preloaded, preloaded-on, drive, begin, start-at, start-loaded, try-start, try-start-on, one-sent, finish-tail, next-cell, send-step-on, advance-tx}
 use Rattle.sci.specs.Clocked.{tail-ends, tail-ends-on, bit-out, shift-out, shift-out-on}
 use Rattle.sci.specs.Registers.{load-tail, load-tail-on}
-use Rattle.laws.proofs.Branches.{both-arms}
+use Rattle.frame.proofs.Branches.{both-arms}
 
 -- P is kept by each of the sender's primitive updates: those by which a word starts and goes on, and the end of one
 pub record StartClosed (P : Port → Type 0) : Type 0 where

@@ -18,6 +18,13 @@ by-cond P false x y f g = g refl
 pub both-arms : {A : Type 0} (P : A → Type 0) (b : Bool) (x y : A) → P x → P y → P (cond b x y)
 both-arms P b x y f g = by-cond P b x y (λ e. f) (λ e. g)
 
+-- the branch that a known test takes
+pub cond-true : {A : Type 0} (b : Bool) (x y : A) → b ≡ true → cond b x y ≡ x
+cond-true b x y e = ap (λ (t : Bool). cond t x y) e
+
+pub cond-false : {A : Type 0} (b : Bool) (x y : A) → b ≡ false → cond b x y ≡ y
+cond-false b x y e = ap (λ (t : Bool). cond t x y) e
+
 pub and-no : (a : Bool) → (a && false) ≡ false
 and-no true = refl
 and-no false = refl
@@ -25,6 +32,10 @@ and-no false = refl
 pub and-yes : (a : Bool) → (a && true) ≡ a
 and-yes true = refl
 and-yes false = refl
+
+pub or-left : (a b : Bool) → (a || b) ≡ false → a ≡ false
+or-left true b e = e
+or-left false b e = refl
 
 pub or-right : (a b : Bool) → (a || b) ≡ false → b ≡ false
 or-right true b e = absurd (true≢false e)

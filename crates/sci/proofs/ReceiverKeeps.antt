@@ -13,16 +13,16 @@ use Rattle.words.specs.declared.Receiver.{Receiver}
 use Rattle.words.specs.declared.Receiver.the-variants.{Idle, Busy}
 use Rattle.words.specs.declared.Sampled.{Sampled}
 use Rattle.words.specs.declared.Sampled.the-variants.{Dropped, Onward, Whole}
 use Rattle.sci.specs.Fields.{with-rx, with-ssr, with-rdr, with-received}
 use Rattle.sci.specs.Baud.{format-of, external, counted}
 use Rattle.words.specs.Due.{due-now, due-or}
 use Rattle.words.specs.Receiver.{sample, last-bit, bit-taken, clocked-word, rx-due-on}
 use Rattle.sci.specs.Receiver.{input-level, error-free, arms, arm-receive, arm-receive-on, complete-receive, after-sample, advance-rx, advance-rx-on}
 use Rattle.sci.specs.Sender.{advance-tx}
 use Rattle.sci.specs.Clocked.{sync-needed, with-clock, refresh-sync-clock, take-bit, receive-bit, receive-bit-on, sync-edge}
 use Rattle.sci.specs.Half.{process-basic, sync, clocked-edge, advance, half-step}
-use Rattle.laws.proofs.Branches.{both-arms}
-use Rattle.laws.proofs.SenderKeeps.{SenderClosed, advance-tx-keeps, tail-keeps, shift-keeps}
+use Rattle.frame.proofs.Branches.{both-arms}
+use Rattle.sci.proofs.SenderKeeps.{SenderClosed, advance-tx-keeps, tail-keeps, shift-keeps}
 
 -- P is kept by each of the receiver's primitive updates
 pub record ReceiverClosed (P : Port → Type 0) : Type 0 where
@@ -45,11 +45,14 @@ free-receiver P free =
     }
 
 -- the clock of clocked form is planned anew
-pub refresh-keeps : (P : Port → Type 0) → ((q : Port) (d : Due) (b : Bool) → P q → P (with-clock q d b)) → (p : Port) → P p → P (refresh-sync-clock p)
+pub refresh-any : (P : Port → Type 0) (p : Port) → ((d : Due) (b : Bool) → P (with-clock p d b)) → P (refresh-sync-clock p)
 unfolding refresh-sync-clock
-refresh-keeps P by-clock p k =
-    both-arms P (external p) _ _ (by-clock p Never (p .sck) k)
-    (both-arms P (sync-needed p) _ _ (by-clock p (due-or (p .«sync_next») (p .half + 2)) (p .sck) k) (by-clock p Never true k))
+refresh-any P p k =
+    both-arms P (external p) _ _ (k Never (p .sck))
+    (both-arms P (sync-needed p) _ _ (k (due-or (p .«sync_next») (p .half + 2)) (p .sck)) (k Never true))
+
+pub refresh-keeps : (P : Port → Type 0) → ((q : Port) (d : Due) (b : Bool) → P q → P (with-clock q d b)) → (p : Port) → P p → P (refresh-sync-clock p)
+refresh-keeps P by-clock p k = refresh-any P p (λ d b. by-clock p d b k)
 
 -- a word begins
 pub arm-keeps : (P : Port → Type 0) → ((q : Port) (x : Receiver) → P q → P (with-rx q x)) → (p : Port) → P p → P (arm-receive p)
@@ -105,14 +108,20 @@ module _ (P : Port → Type 0) (s : SenderClosed P) (c : ReceiverClosed P) where
 
 -- ---- a whole half
 module _ (P : Port → Type 0) (s : SenderClosed P) (c : ReceiverClosed P) (by-clock : (q : Port) (d : Due) (b : Bool) → P q → P (with-clock q d b)) where
+  pub clocked-edge-keeps : (p : Port) → P p → P (clocked-edge p)
+  unfolding clocked-edge
+  clocked-edge-keeps p k =
+      both-arms P (due-now (p .«sync_next») (p .half)) _ p (sync-edge-keeps P s c (not (p .sck)) (with-clock p Never (not (p .sck))) (by-clock p Never (not (p .sck)) k)) k
+
+  pub advance-keeps : (p : Port) → P p → P (advance p)
+  unfolding advance
+  advance-keeps p k =
+      refresh-keeps P by-clock (clocked-edge (process-basic p)) (clocked-edge-keeps (process-basic p) (basic-keeps P s c p k))
+
   pub half-keeps : ((q : Port) → P q → P (counted q)) → (p : Port) → P p → P (half-step p)
-  unfolding half-step advance sync clocked-edge
+  unfolding half-step sync
   half-keeps by-count p k =
       let q : Port = counted p in
-      let w : Port = sync q in
-      let b : Port = process-basic w in
       let kq : P q = by-count p k in
-      let kw : P w = both-arms P (rx-due-on (p .rx) (suc (p .half))) (refresh-sync-clock (process-basic q)) q (refresh-keeps P by-clock (process-basic q) (basic-keeps P s c q kq)) kq in
-      let kb : P b = basic-keeps P s c w kw in
-      refresh-keeps P by-clock (clocked-edge b)
-      (both-arms P (due-now (b .«sync_next») (b .half)) _ b (sync-edge-keeps P s c (not (b .sck)) (with-clock b Never (not (b .sck))) (by-clock b Never (not (b .sck)) kb)) kb)
+      advance-keeps (sync q)
+      (both-arms P (rx-due-on (p .rx) (suc (p .half))) (refresh-sync-clock (process-basic q)) q (refresh-keeps P by-clock (process-basic q) (basic-keeps P s c q kq)) kq)

@@ -1,0 +1,14 @@
+use Rattle.sci.proofs.Clauses.{arms-on-clauses}
+use borrow.Author.Needs.{needs}
+use Rattle.sci.proofs.Port.arms_now.Statement.{statement}
+use Rattle.sci.proofs.Port.arms_now.Tie as tie
+
+pub arms-now-spec : {M : Type 1} → statement M
+arms-now-spec =
+    tie.close
+    (tie.spec
+    (λ c. search needs)
+    (λ c. search needs)
+    (λ c. search (arms-on-clauses, needs) depth 10)
+    (λ c κs. search needs)
+    (λ c. search (arms-on-clauses, needs) depth 10))

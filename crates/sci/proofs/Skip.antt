@@ -1,0 +1,256 @@
+-- Halves on which nothing happens only count, so that a run of them may be counted at once; and what the loop of `halves` cites.
+-- Assumes nothing.
+use mathlib.Core.Path.{_≡_, refl, sym, ap, ap₂, _∙_, subst, subst⁻¹}
+use mathlib.Core.Bool.{Bool, true, false, not, cond, _&&_}
+use Prim.Native.Nat.{ℕ, zero, suc, _+_, _-_, _%_, _≤_, _<_}
+use native.Mathlib.Omega.{arith}
+use native.Mathlib.Nat.{le-trans, zero-add, suc-add}
+use lib.Dec.{eqb, ltb}
+use borrow.Author.Tests.{ne-eqb, eq-eqb, lt-ltb, ltb-true, ltb-false, eqb-true, eqb-false}
+use Rattle.frame.specs.Frame.{differ}
+use Rattle.frame.proofs.Branches.{by-cond}
+use Rattle.words.specs.declared.Due.{Due}
+use Rattle.words.specs.declared.Due.the-variants.{Never, At}
+use Rattle.words.specs.declared.Receiver.{Receiver}
+use Rattle.words.specs.declared.Receiver.the-variants.{Idle, Busy}
+use Rattle.words.specs.Due.{due-now, within}
+use Rattle.words.specs.Sender.{tx-next}
+use Rattle.words.specs.Receiver.{rx-next}
+use Rattle.sci.specs.declared.Port.{Port}
+use Rattle.sci.specs.Fields.{with-half, with-high, with-edge}
+use Rattle.sci.specs.Baud.{external, counted}
+use Rattle.sci.specs.Receiver.{arm-receive}
+use Rattle.sci.specs.Clocked.{refresh-sync-clock}
+use Rattle.sci.specs.Half.{process-basic, clocked-edge, advance, half-step, halves}
+use Rattle.sci.specs.Skip.{arms-on, clock-fresh, deadline, counted-by}
+use Rattle.sci.specs.Valid.{limit}
+use Rattle.sci.specs.Ready.{Ready}
+use Rattle.sci.proofs.Keep.{own, keep-counted, keep-advance}
+use Rattle.sci.proofs.SenderKeeps.{free-sender}
+use Rattle.sci.proofs.ReceiverKeeps.{free-receiver, basic-keeps, clocked-edge-keeps, advance-keeps}
+use Rattle.sci.proofs.OnePass.{basic-still, edge-still, refresh-still, half-once}
+
+-- ---- the first half that is due
+-- a due half is none of the k halves after h
+abbrev Clear : Due → ℕ → ℕ → Type 0
+Clear Never h k = Unit
+Clear (At n) h k = h < n → h + k < n
+
+not-now : (d : Due) (h k : ℕ) → Clear d h (suc k) → due-now d (suc h) ≡ false
+not-now Never h k c = refl
+not-now (At n) h k c = ne-eqb n (suc h) (λ e. let l : h + suc k < n = c (omega (arith, e)) in omega (arith, e, l))
+
+later : (d : Due) (h k : ℕ) → Clear d h (suc k) → Clear d (suc h) k
+later Never h k c = tt
+later (At n) h k c = λ b. let l : h + suc k < n = c (omega (arith, b)) in omega (arith, l)
+
+within-bounds : (d : Due) (h left : ℕ) → 1 ≤ left → (1 ≤ within d h left) × (within d h left ≤ left)
+within-bounds Never h left l = (l, omega arith)
+within-bounds (At n) h left l =
+    by-cond (λ (x : ℕ). (1 ≤ x) × (x ≤ left)) (ltb h n) _ _
+    (λ e. by-cond (λ (x : ℕ). (1 ≤ x) × (x ≤ left)) (ltb (n - h) left) _ _
+    (λ f. (omega (arith, ltb-true h n e), omega (arith, ltb-true (n - h) left f))) (λ f. (l, omega arith)))
+    (λ e. (l, omega arith))
+
+within-clear : (d : Due) (h left k : ℕ) → k < within d h left → Clear d h k
+within-clear Never h left k l = tt
+within-clear (At n) h left k l = λ b. near b (subst (λ (x : Bool). k < cond x (cond (ltb (n - h) left) (n - h) left) left) (lt-ltb h n b) l)
+  where
+    near : h < n → k < cond (ltb (n - h) left) (n - h) left → h + k < n
+    near b m =
+        by-cond (λ (x : ℕ). k < x → h + k < n) (ltb (n - h) left) _ _ (λ e g. omega arith) (λ e g. omega (arith, ltb-false (n - h) left e)) m
+
+pub within-of : (z : ℕ) (d e : Due) (h m n : ℕ) → z ≡ within d h m → d ≡ e → m ≡ n → z ≡ within e h n
+within-of z d e h m n a b c = a ∙ ap₂ (λ (x : Due) (y : ℕ). within x h y) b c
+
+-- ---- k halves counted one by one are k counted at once
+odd-suc : (k : ℕ) → not (eqb (suc k % 2) 0) ≡ not (not (eqb (k % 2) 0))
+odd-suc k = go (eqb (k % 2) 0) refl
+  where
+    go : (b : Bool) → eqb (k % 2) 0 ≡ b → not (eqb (suc k % 2) 0) ≡ not (not b)
+    go true e = let f : k % 2 ≡ 0 = eqb-true (k % 2) 0 e in ap not (ne-eqb (suc k % 2) 0 (omega (arith, f)))
+    go false e = let f : k % 2 ≡ 0 → ⊥ = eqb-false (k % 2) 0 e in ap not (eq-eqb (suc k % 2) 0 (omega (arith, f)))
+
+differ-not : (a b : Bool) → differ (not a) b ≡ differ a (not b)
+differ-not true true = refl
+differ-not true false = refl
+differ-not false true = refl
+differ-not false false = refl
+
+not-differ : (b : Bool) → not b ≡ differ b true
+not-differ true = refl
+not-differ false = refl
+
+abbrev at-half : ℕ → Bool → Port → Port
+at-half n b p = with-edge (with-high (with-half p n) b) true
+
+one-counted : (p : Port) → counted p ≡ counted-by 1 p
+unfolding counted-by
+one-counted p = ap₂ (λ (n : ℕ) (b : Bool). at-half n b p) (omega arith) (not-differ (p .high))
+
+then-counted : (k : ℕ) (p : Port) → counted-by k (counted p) ≡ counted-by (suc k) p
+unfolding counted-by
+then-counted k p =
+    ap₂ (λ (n : ℕ) (b : Bool). at-half n b p) (omega arith) (differ-not (p .high) _ ∙ ap (differ (p .high)) (sym (odd-suc k)))
+
+-- ---- a half on which nothing happens
+-- no word begins, the clock of clocked form is planned, and nothing is due in the k halves to come
+record Still (k : ℕ) (p : Port) : Type 0 where
+  pub unarmed : arms-on (p .rx) p ≡ false
+  pub fresh : clock-fresh p ≡ true
+  pub sends : Clear (tx-next (p .tx)) (p .half) k
+  pub receives : Clear (rx-next (p .rx)) (p .half) k
+  pub clocks : Clear (p .«sync_next») (p .half) k
+
+arms-counted : (x : Receiver) (p : Port) → arms-on x (counted p) ≡ arms-on x p
+arms-counted Idle p = refl
+arms-counted (Busy r) p = refl
+
+fresh-counted : (p : Port) → clock-fresh (counted p) ≡ clock-fresh p
+unfolding clock-fresh
+fresh-counted p = refl
+
+still-counted : (k : ℕ) (p : Port) → Still (suc k) p → Still k (counted p)
+still-counted k p s =
+    record {
+      unarmed = arms-counted (p .rx) p ∙ s .unarmed;
+      fresh = fresh-counted p ∙ s .fresh;
+      sends = later (tx-next (p .tx)) (p .half) k (s .sends);
+      receives = later (rx-next (p .rx)) (p .half) k (s .receives);
+      clocks = later (p .«sync_next») (p .half) k (s .clocks);
+    }
+
+advance-still : (k : ℕ) (p : Port) → external p ≡ false → Still (suc k) p → advance (counted p) ≡ counted p
+unfolding advance
+advance-still k p x s =
+    let q : Port = counted p in
+    let b : process-basic q ≡ q = basic-still q (not-now (tx-next (p .tx)) (p .half) k (s .sends)) (not-now (rx-next (p .rx)) (p .half) k (s .receives)) (arms-counted (p .rx) p ∙ s .unarmed) in
+    let c : clocked-edge q ≡ q = edge-still q (not-now (p .«sync_next») (p .half) k (s .clocks)) in
+    ap (λ (w : Port). refresh-sync-clock (clocked-edge w)) b ∙ ap refresh-sync-clock c ∙ refresh-still q x (fresh-counted p ∙ s .fresh)
+
+-- ---- k halves, of which only the last may do more than count
+one-half : {n : ℕ} (p : Port) → Ready n p → n < limit → external p ≡ false → halves 1 p ≡ advance (counted-by 1 p)
+unfolding halves
+one-half p r l x = half-once r l x ∙ ap advance (one-counted p)
+
+skip : {n : ℕ} (k : ℕ) (p : Port) → Ready n p → n + suc k ≤ limit → external p ≡ false → Still k p → halves (suc k) p ≡ advance (counted-by (suc k) p)
+unfolding halves
+skip zero p r l x s = one-half p r (omega (arith, l)) x
+skip (suc k) p r l x s =
+    let c : half-step p ≡ counted p = half-once r (omega (arith, l)) x ∙ advance-still k p x s in
+    ap (halves (suc k)) c ∙ skip k (counted p) (keep-counted r (omega (arith, l))) (omega (arith, l)) x (still-counted k p s) ∙ ap advance (then-counted (suc k) p)
+
+-- as many as the deadline says
+pub deadline-bounds : (p : Port) (left k : ℕ) → 1 ≤ left → k ≡ deadline left p → (1 ≤ k) × (k ≤ left)
+unfolding deadline
+deadline-bounds p left k l e =
+    subst⁻¹ (λ (m : ℕ). (1 ≤ m) × (m ≤ left)) e
+    (by-cond (λ (x : ℕ). (1 ≤ x) × (x ≤ left)) (arms-on (p .rx) p) _ _ (λ f. (omega arith, l))
+    (λ f. by-cond (λ (x : ℕ). (1 ≤ x) × (x ≤ left)) (clock-fresh p) _ _
+    (λ g.
+    let a = within-bounds (tx-next (p .tx)) (p .half) left l in
+    let b = within-bounds (rx-next (p .rx)) (p .half) _ (a .0) in
+    let c = within-bounds (p .«sync_next») (p .half) _ (b .0) in
+    (c .0, le-trans (c .1) (le-trans (b .1) (a .1))))
+    (λ g. (omega arith, l))))
+
+pub skip-deadline : (p : Port) (left k : ℕ) → Ready (p .half) p → external p ≡ false → 1 ≤ left → p .half + left ≤ limit → k ≡ deadline left p → advance (counted-by k p) ≡ halves k p
+unfolding deadline
+skip-deadline p left k r x l h e = go (arms-on (p .rx) p) (clock-fresh p) refl refl e
+  where
+    sent : ℕ
+    sent = within (tx-next (p .tx)) (p .half) left
+
+    taken : ℕ
+    taken = within (rx-next (p .rx)) (p .half) sent
+
+    first : ℕ
+    first = within (p .«sync_next») (p .half) taken
+
+    Same : ℕ → Type 0
+    Same m = advance (counted-by m p) ≡ halves m p
+
+    one : k ≡ 1 → Same k
+    one f = subst⁻¹ Same f (sym (one-half p r (omega (arith, l, h)) x))
+
+    some : (j : ℕ) → arms-on (p .rx) p ≡ false → clock-fresh p ≡ true → j ≡ first → Same j
+    some j a f d =
+        let s = within-bounds (tx-next (p .tx)) (p .half) left l in
+        let t = within-bounds (rx-next (p .rx)) (p .half) sent (s .0) in
+        let c = within-bounds (p .«sync_next») (p .half) taken (t .0) in
+        up j d (s .1) (t .1) c
+      where
+        up : (i : ℕ) → i ≡ first → sent ≤ left → taken ≤ sent → (1 ≤ first) × (first ≤ taken) → Same i
+        up zero d s t c = absurd (omega (arith, d, c .0))
+        up (suc i) d s t c =
+            sym (skip i p r (omega (arith, d, s, t, c .1, h)) x
+            (record {
+              unarmed = a;
+              fresh = f;
+              sends = within-clear (tx-next (p .tx)) (p .half) left i (omega (arith, d, t, c .1));
+              receives = within-clear (rx-next (p .rx)) (p .half) sent i (omega (arith, d, c .1));
+              clocks = within-clear (p .«sync_next») (p .half) taken i (omega (arith, d));
+            }))
+
+    go : (a f : Bool) → arms-on (p .rx) p ≡ a → clock-fresh p ≡ f → k ≡ cond a 1 (cond f first 1) → Same k
+    go true f u v d = one d
+    go false false u v d = one d
+    go false true u v d = some k u v d
+
+-- SCR is kept, so a port on the internal clock stays there
+abbrev Internal : Port → Type 0
+Internal q = external q ≡ false
+
+pub advance-internal : (p : Port) → Internal p → Internal (advance p)
+advance-internal p x =
+    advance-keeps Internal (free-sender Internal (λ q t u b s x k. k) (λ q n k. k)) (free-receiver Internal (λ q x s v n k. k)) (λ q d b k. k) p x
+
+edge-internal : (p : Port) → Internal p → Internal (clocked-edge (process-basic p))
+edge-internal p x =
+    let s = free-sender Internal (λ q t u b s x k. k) (λ q n k. k) in
+    let c = free-receiver Internal (λ q x s v n k. k) in
+    clocked-edge-keeps Internal s c (λ q d b k. k) (process-basic p) (basic-keeps Internal s c p x)
+
+-- ---- `advance` leaves out a refresh that changes nothing
+pub advance-fresh : (z c b p : Port) (f : Bool) → external p ≡ false → b ≡ process-basic p → c ≡ clocked-edge b → f ≡ clock-fresh c → f ≡ true → z ≡ c → z ≡ advance p
+unfolding advance
+advance-fresh z c b p f x eb ec ef t e =
+    let d : c ≡ clocked-edge (process-basic p) = ec ∙ ap clocked-edge eb in
+    let y : external c ≡ false = ap external d ∙ edge-internal p x in
+    e ∙ sym (refresh-still c y (sym ef ∙ t)) ∙ ap refresh-sync-clock d
+
+-- ---- the loop: what is left makes of the port what all of them make of the first one
+halves-add : (k m : ℕ) (p : Port) → halves (k + m) p ≡ halves m (halves k p)
+unfolding halves
+halves-add zero m p = ap (λ (n : ℕ). halves n p) (zero-add m)
+halves-add (suc k) m p = ap (λ (n : ℕ). halves n p) (suc-add k m) ∙ halves-add k m (half-step p)
+
+keep-counted-by : {n : ℕ} {p : Port} (k : ℕ) → Ready n p → n + k ≤ limit → Ready (n + k) (counted-by k p)
+unfolding counted-by
+keep-counted-by k r l =
+    record { half≡ = ap (λ (m : ℕ). m + k) (r .half≡); half≤ = omega (arith, r .half≡, l); placed = r .placed; sendable = r .sendable }
+
+external-counted : (k : ℕ) (p : Port) → external (counted-by k p) ≡ external p
+unfolding counted-by
+external-counted k p = refl
+
+-- a port that the loop may go on with, left halves from its end
+abbrev pub Goes : ℕ → Port → Type 0
+Goes left p = Ready (p .half) p × (p .half + left ≤ limit) × (external p ≡ false)
+
+pub counted-goes : (q p : Port) (left k : ℕ) → 1 ≤ left → Goes left p → k ≡ deadline left p → q ≡ counted-by k p → Ready (p .half + k) q × Ready (q .half) q × (external q ≡ false)
+counted-goes q p left k l g e f =
+    let y : Ready (p .half + k) q = subst⁻¹ (Ready (p .half + k)) f (keep-counted-by k (g .0) (omega (arith, g .1, deadline-bounds p left k l e .1))) in
+    (y, own q (p .half + k) y, ap external f ∙ external-counted k p ∙ g .2)
+
+pub goes-on : (r q p : Port) (left k : ℕ) → 1 ≤ left → Goes left p → k ≡ deadline left p → q ≡ counted-by k p → r ≡ advance q → Goes (left - k) r
+goes-on r q p left k l g e f d =
+    let c = counted-goes q p left k l g e f in
+    let y : Ready (p .half + k) r = subst⁻¹ (Ready (p .half + k)) d (keep-advance (c .0)) in
+    (own r (p .half + k) y, omega (arith, y .half≡, g .1, deadline-bounds p left k l e .1), ap external d ∙ advance-internal q (c .2))
+
+pub halves-on : (r q p p₀ : Port) (left k n : ℕ) → 1 ≤ left → Goes left p → k ≡ deadline left p → q ≡ counted-by k p → r ≡ advance q → halves left p ≡ halves n p₀ → halves (left - k) r ≡ halves n p₀
+halves-on r q p p₀ left k n l g e f d h =
+    let c = deadline-bounds p left k l e in
+    ap (halves (left - k)) (d ∙ ap advance f ∙ skip-deadline p left k (g .0) (g .2) l (g .1) e) ∙ sym (halves-add k (left - k) p)
+    ∙ ap (λ (m : ℕ). halves m p) (omega (arith, c .1)) ∙ h
