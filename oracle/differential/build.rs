@@ -5,7 +5,8 @@ use std::{env, path::PathBuf};
 const VARIABLE: &str = "SCI3_CAPI";
 const NAME: &str = "libcapi.a";
 
-fn main() {
+/// Also the build script of the benchmarks, which link the same archive.
+pub fn main() {
     println!("cargo::rerun-if-env-changed={VARIABLE}");
     println!("cargo::rerun-if-changed=build.rs");
     if env::var_os("CARGO_FEATURE_CAPI").is_none() {

@@ -21,7 +21,8 @@ const REFUSED: u64 = 256;
 fn fresh(words: &mut [u64]) -> u64 {
     unsafe { sci3_fresh(words.as_mut_ptr(), words.len()) }
 }
-fn call(words: &mut [u64], c: Command) -> u64 {
+/// `sci3_call` as it is.
+pub fn call(words: &mut [u64], c: Command) -> u64 {
     unsafe { sci3_call(words.as_mut_ptr(), words.len(), c.kind, c.a, c.b) }
 }
 fn pins(words: &[u64]) -> u64 {

@@ -221,7 +221,12 @@ mod oracle {
         }
         /// The time of the next half's edge, while halves pass.
         pub fn oracle_next_edge(&self, c: &Clocks) -> Result<Option<Time>, Error> {
-            self.baud.deadline(self.baud.half + 1, c, self.reload())
+            self.oracle_edge_after(1, c)
+        }
+        /// The time of the edge of the half so many halves from now.
+        pub fn oracle_edge_after(&self, halves: u64, c: &Clocks) -> Result<Option<Time>, Error> {
+            self.baud
+                .deadline(self.baud.half + halves, c, self.reload())
         }
         /// Empty the optical log; how many changes it held.
         pub fn oracle_drain(&mut self) -> usize {
