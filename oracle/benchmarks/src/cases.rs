@@ -56,6 +56,14 @@ pub struct Case {
     pub units: usize,
 }
 
+impl Case {
+    /// The halves that its waits ask for.
+    pub fn halves(&self) -> u32 {
+        let waits = self.commands.iter().filter(|c| c.kind == 3);
+        waits.map(|c| c.a).sum()
+    }
+}
+
 impl Plan {
     /// The whole script.
     pub fn case(&self) -> Case {

@@ -25,16 +25,24 @@ impl Reference {
     /// Clocks and port begin where the oracle's do: far enough apart that the
     /// reference's cache of its next edge is never wrong.
     pub fn at(state: &State, pace: Pace) -> Self {
-        let setup = Setup::default();
-        let clocks = Clocks::new(Time::from_raw(setup.clocks), Frequencies::default())
-            .expect("the reference's own frequencies make clocks");
-        let now = Time::from_raw(setup.port);
-        Self {
-            sci: Sci::oracle_from_state(state, now, &clocks),
+        let clocks = Clocks::new(
+            Time::from_raw(Setup::default().clocks),
+            Frequencies::default(),
+        )
+        .expect("the reference's own frequencies make clocks");
+        let mut port = Self {
+            sci: Sci::default(),
             clocks,
-            now,
+            now: Time::ZERO,
             pace,
-        }
+        };
+        port.set(state);
+        port
+    }
+    /// To another state, at the time at which a port begins.
+    pub fn set(&mut self, state: &State) {
+        self.now = Time::from_raw(Setup::default().port);
+        self.sci = Sci::oracle_from_state(state, self.now, &self.clocks);
     }
     pub fn state(&self) -> Result<State, String> {
         self.sci.oracle_state(self.now).map_err(str::to_string)

@@ -139,6 +139,7 @@ pub fn outcome(ended: &Result<usize, String>, state: State, log: &[u8]) -> Resul
 
 struct Array<'a> {
     commands: &'a [Command],
+    port: Reference,
     start: Words,
     words: Words,
     answers: Vec<u8>,
@@ -150,18 +151,19 @@ impl<'a> Array<'a> {
         let start = encode(&case.start);
         Self {
             commands: &case.commands,
+            port: Reference::at(&case.start, Pace::Events),
             start,
             words: start,
             answers: vec![0; case.commands.len()],
             ended: Ok(0),
         }
     }
-    fn call(words: &mut Words, c: Command) -> Result<u8, String> {
+    fn call(port: &mut Reference, words: &mut Words, c: Command) -> Result<u8, String> {
         let state = decode(words)?;
         if let Some(number) = model::refusal(&state, c.kind, c.a, c.b) {
             return Err(format!("refused {number}"));
         }
-        let mut port = Reference::at(&state, Pace::Events);
+        port.set(&state);
         let answer = port.call(c).map_err(|e| format!("{e:?}"))?;
         *words = encode(&port.state()?);
         Ok(answer)
@@ -176,7 +178,7 @@ impl Side for Array<'_> {
     fn run(&mut self) {
         self.ended = (|| {
             for (c, answer) in self.commands.iter().zip(&mut self.answers) {
-                *answer = Self::call(&mut self.words, *c)?;
+                *answer = Self::call(&mut self.port, &mut self.words, *c)?;
             }
             Ok(self.answers.len())
         })();
