@@ -136,7 +136,7 @@ pub fn scripts(plans: &[&Plan]) -> Table {
             case.units,
         ];
         let mut cells = vec![plan.name.to_string()];
-        cells.extend(sizes.map(|size| number_of(size)));
+        cells.extend(sizes.map(number_of));
         if let Some(last) = cells.last_mut() {
             *last += &format!(" {}s", plan.unit.name());
         }

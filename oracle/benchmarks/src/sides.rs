@@ -5,7 +5,7 @@ use crate::{
     play,
     port::{Pace, Reference},
 };
-use differential::layout::{Words, decode, encode};
+use differential::layout::{MOST, Words, decode, encode, read};
 use model::{Command, RECORD, State};
 
 /// Where a run ended: the state, and the log of its records or answers.
@@ -159,7 +159,12 @@ impl<'a> Array<'a> {
         }
     }
     fn call(port: &mut Reference, words: &mut Words, c: Command) -> Result<u8, String> {
-        let state = decode(words)?;
+        // As ours: no number above its place's greatest, and places that are
+        // not in use are not looked at.
+        if words.iter().zip(&MOST).any(|(word, most)| word > most) {
+            return Err("the array is no state".into());
+        }
+        let state = read(words);
         if let Some(number) = model::refusal(&state, c.kind, c.a, c.b) {
             return Err(format!("refused {number}"));
         }

@@ -67,6 +67,9 @@ pub fn number(value: f64) -> String {
 
 /// Two digits that count, however small.
 pub fn ratio(value: f64) -> String {
+    if value >= 100.0 {
+        return number(value);
+    }
     if value >= 0.1 || value <= 0.0 {
         return format!("{value:.2}");
     }

@@ -164,7 +164,7 @@ pub fn decode(words: &Words) -> Result<State, String> {
 }
 
 /// Every number is at most its place's greatest, so each fits its type.
-pub(crate) fn read(words: &Words) -> State {
+pub fn read(words: &Words) -> State {
     let byte = |place: usize| words[place] as u8;
     let bit = |place: usize| words[place] != 0;
     let half = |place: usize| words[place] as u32;
