@@ -62,9 +62,11 @@ pub fn row(plan: &Plan, kinds: &[Kind]) -> Result<Row, String> {
 pub fn rows(plans: &[&Plan], kinds: &[Kind], child: &[String]) -> Result<Vec<Row>, String> {
     let mut rows = Vec::new();
     for plan in plans {
+        eprintln!("timing: {}", plan.name);
         rows.push(row(plan, kinds)?);
     }
     if counting::present() {
+        eprintln!("counting instructions");
         let counts = counting::counts(plans, kinds, child)?;
         for (row, counts) in rows.iter_mut().zip(counts) {
             row.counts = counts.into_iter().map(Some).collect();

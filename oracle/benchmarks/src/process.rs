@@ -78,6 +78,7 @@ fn run_all(sides: &mut [Process], script: &[u8]) -> Result<(), String> {
 }
 
 fn row(name: &str, ours: &Path, script: &[u8], limit: Option<f64>) -> Result<Row, String> {
+    eprintln!("timing: {name}");
     let this = std::env::current_exe().map_err(|e| e.to_string())?;
     let mut sides = [
         (ours, &[][..], 0),

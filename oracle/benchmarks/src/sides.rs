@@ -48,6 +48,20 @@ pub enum Kind {
 pub const PLAYING: [Kind; 4] = [Kind::Player, Kind::Events, Kind::List, Kind::Stepped];
 pub const CALLING: [Kind; 3] = [Kind::Calls, Kind::Methods, Kind::Array];
 
+/// All of a group, or the one side of a name.
+pub fn named(name: &str) -> Option<Vec<Kind>> {
+    let place = [
+        "player", "events", "list", "stepped", "calls", "methods", "array",
+    ]
+    .iter()
+    .position(|known| *known == name);
+    match name {
+        "playing" => Some(PLAYING.to_vec()),
+        "calling" => Some(CALLING.to_vec()),
+        _ => Some(vec![*PLAYING.iter().chain(&CALLING).nth(place?)?]),
+    }
+}
+
 /// None where the side is ours and the port is not linked.
 pub fn side<'a>(kind: Kind, case: &'a Case) -> Option<Box<dyn Side + 'a>> {
     Some(match kind {

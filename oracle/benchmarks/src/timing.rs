@@ -104,6 +104,50 @@ fn summary(taken: &mut [Duration]) -> Times {
 #[cfg(test)]
 mod tests {
     use super::*;
+    use model::Oracle;
+
+    /// A side that ends somewhere at once.
+    struct Ended(Result<Outcome, String>);
+
+    impl Side for Ended {
+        fn reset(&mut self) {}
+        fn run(&mut self) {}
+        fn outcome(&self) -> Result<Outcome, String> {
+            self.0.clone()
+        }
+    }
+
+    fn beside(change: impl FnOnce(&mut Outcome)) -> Result<Vec<Times>, String> {
+        let mut end = Outcome {
+            state: Oracle::fresh().state(),
+            log: vec![1, 2, 3],
+        };
+        let first = Ended(Ok(end.clone()));
+        change(&mut end);
+        let mut sides: [Box<dyn Side>; 2] = [Box::new(first), Box::new(Ended(Ok(end)))];
+        times(&mut sides, Duration::from_micros(1))
+    }
+
+    #[test]
+    fn no_figure_where_ends_differ() {
+        assert!(beside(|_| {}).is_ok());
+        let said = |what: &str| Err(format!("side 1 ends otherwise than side 0: {what}"));
+        let figures = |change: fn(&mut Outcome)| beside(change).map(|_| ());
+        assert_eq!(
+            figures(|end| end.state.half = 1),
+            said("half count is 1, not 0")
+        );
+        assert_eq!(
+            figures(|end| end.log[2] = 9),
+            said("log byte 2 is 9, not 3")
+        );
+        assert_eq!(
+            figures(|end| end.log.push(0)),
+            said("another form of state or log")
+        );
+        let mut sides: [Box<dyn Side>; 1] = [Box::new(Ended(Err("refused 2 at 0".into())))];
+        assert!(times(&mut sides, Duration::from_micros(1)).is_err());
+    }
 
     #[test]
     fn every_run_falls_on_one_turn() {

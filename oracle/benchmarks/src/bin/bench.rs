@@ -5,7 +5,7 @@ use benchmarks::{
     counting, measure,
     port::Pace,
     process, program, report,
-    sides::{CALLING, PLAYING},
+    sides::{self, CALLING, PLAYING},
     table::Table,
 };
 use std::{
@@ -25,7 +25,8 @@ struct Options {
     case: String,
     markdown: bool,
     document: Option<PathBuf>,
-    /// For the processes that the driver itself starts.
+    /// For the processes that the driver itself starts: a script from standard
+    /// input, and the runs whose instructions are counted.
     play: Option<String>,
     count: Option<String>,
 }
@@ -65,10 +66,11 @@ fn run(options: &Options) -> Result<(), String> {
         (Some("events"), _) => program::main(Pace::Events),
         (Some("halves"), _) => program::main(Pace::Halves),
         (Some(_), _) => Err(USAGE.into()),
-        (_, Some("playing")) => counting::run_all(&report::plans(&options.case), &PLAYING),
-        (_, Some("calling")) => counting::run_all(&report::plans(&options.case), &CALLING),
-        (_, Some(_)) => Err(USAGE.into()),
-        _ => measure_all(options),
+        (None, Some(name)) => {
+            let kinds = sides::named(name).ok_or(USAGE)?;
+            counting::run_all(&report::plans(&options.case), &kinds)
+        }
+        (None, None) => measure_all(options),
     }
 }
 
