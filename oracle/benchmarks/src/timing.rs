@@ -1,11 +1,11 @@
 //! Times. The sides take turns in one process, so that what disturbs the
 //! machine disturbs all of them; the least and the median of many runs.
-use crate::sides::{Outcome, Side};
-use differential::compare::state_fields;
-use std::{
-    hint::black_box,
-    time::{Duration, Instant},
+use crate::{
+    clock::{Begun, Taken, sorted},
+    sides::{Outcome, Side},
 };
+use differential::compare::state_fields;
+use std::{hint::black_box, time::Duration};
 
 /// Turns that each side has, and the fewest runs of a slow one.
 const TURNS: u32 = 21;
@@ -25,11 +25,11 @@ pub fn sci3_benchmark_run(side: &mut dyn Side) {
     side.run();
 }
 
-fn once(side: &mut dyn Side) -> Duration {
+fn once(side: &mut dyn Side) -> Taken {
     side.reset();
-    let begun = Instant::now();
+    let begun = Begun::now();
     sci3_benchmark_run(black_box(side));
-    begun.elapsed()
+    begun.taken()
 }
 
 /// Every side has ended in the same state, with the same log.
@@ -71,11 +71,11 @@ fn difference(a: &Outcome, b: &Outcome) -> Option<String> {
 pub fn times(sides: &mut [Box<dyn Side + '_>], budget: Duration) -> Result<Vec<Times>, String> {
     let mut runs: Vec<u32> = Vec::new();
     for side in sides.iter_mut() {
-        let warm = once(side.as_mut()).max(Duration::from_nanos(100));
+        let warm = sorted(&[once(side.as_mut())])[0].max(Duration::from_nanos(100));
         runs.push((budget.as_nanos() / warm.as_nanos()).clamp(FEWEST.into(), 10_000) as u32);
     }
     same_end(sides)?;
-    let mut taken: Vec<Vec<Duration>> = vec![Vec::new(); sides.len()];
+    let mut taken: Vec<Vec<Taken>> = vec![Vec::new(); sides.len()];
     for turn in 0..TURNS {
         for ((side, runs), taken) in sides.iter_mut().zip(&runs).zip(&mut taken) {
             for _ in share(*runs, turn) {
@@ -84,7 +84,7 @@ pub fn times(sides: &mut [Box<dyn Side + '_>], budget: Duration) -> Result<Vec<T
         }
     }
     same_end(sides)?;
-    Ok(taken.iter_mut().map(|taken| summary(taken)).collect())
+    Ok(taken.iter().map(|taken| summary(&sorted(taken))).collect())
 }
 
 /// The runs that fall on one turn, all of them spread over the turns.
@@ -92,8 +92,8 @@ fn share(runs: u32, turn: u32) -> std::ops::Range<u32> {
     runs * turn / TURNS..runs * (turn + 1) / TURNS
 }
 
-fn summary(taken: &mut [Duration]) -> Times {
-    taken.sort_unstable();
+/// Of times in order.
+fn summary(taken: &[Duration]) -> Times {
     let nanoseconds = |place: usize| taken[place].as_nanos() as f64;
     Times {
         least: nanoseconds(0),
@@ -159,7 +159,7 @@ mod tests {
 
     #[test]
     fn least_and_median() {
-        let times = summary(&mut [5, 1, 9].map(Duration::from_nanos));
+        let times = summary(&[1, 5, 9].map(Duration::from_nanos));
         assert_eq!((times.least, times.median), (1.0, 5.0));
     }
 }
