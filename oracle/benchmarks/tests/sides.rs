@@ -6,8 +6,12 @@ use benchmarks::{
 };
 use model::{Oracle, RECORD};
 
-fn short(plan: &Plan) -> Case {
-    plan.of_rounds(2 * plan.counted)
+/// The whole script; of the idle waits, which take the oracle long, a few.
+fn case(plan: &Plan) -> Case {
+    match plan.unit {
+        Unit::Wait => plan.of_rounds(2 * plan.counted),
+        Unit::Word | Unit::Call => plan.case(),
+    }
 }
 
 /// The oracle's player, which tests every step.
@@ -35,7 +39,7 @@ fn ended(kind: Kind, case: &Case) -> Option<Outcome> {
 #[test]
 fn players_end_as_the_oracle_does() {
     for plan in &PLANS {
-        let case = short(plan);
+        let case = case(plan);
         let expected = oracle(&case);
         for kind in PLAYING {
             if let Some(met) = ended(kind, &case) {
@@ -48,7 +52,7 @@ fn players_end_as_the_oracle_does() {
 #[test]
 fn calls_end_as_the_oracle_does() {
     for plan in &PLANS {
-        let case = short(plan);
+        let case = case(plan);
         let mut expected = oracle(&case);
         expected.log = expected.log.chunks_exact(RECORD).map(|r| r[1]).collect();
         for kind in CALLING {
@@ -62,7 +66,7 @@ fn calls_end_as_the_oracle_does() {
 #[test]
 fn words_are_sent_and_received_back_to_back() {
     for plan in PLANS.iter().filter(|plan| plan.unit == Unit::Word) {
-        let case = short(plan);
+        let case = case(plan);
         let (before, after) = (case.start, oracle(&case).state);
         let sent = after.transmitted - before.transmitted;
         let received = after.received - before.received;
