@@ -1,9 +1,12 @@
 //! Finds the archive of the proved port. It is linked only with the feature
-//! `capi`; without the feature this does nothing.
+//! `capi`; without the feature this does nothing. With the feature `fuzz` the
+//! fuzzer gets libFuzzer's runtime.
 use std::{env, path::PathBuf};
 
 const VARIABLE: &str = "SCI3_CAPI";
 const NAME: &str = "libcapi.a";
+/// Names the runtime, an archive of clang's; it is written in C++.
+const LIBFUZZER: &str = "SCI3_LIBFUZZER";
 
 /// Also the build script of the benchmarks, which link the same archive.
 pub fn main() {
@@ -31,4 +34,14 @@ pub fn main() {
     // By its whole path, so that it may have any name and no other library
     // of the name can be taken. Argument of every target of this crate.
     println!("cargo::rustc-link-arg={}", archive.display());
+    println!("cargo::rerun-if-env-changed={LIBFUZZER}");
+    if env::var_os("CARGO_FEATURE_FUZZ").is_some() {
+        match env::var(LIBFUZZER) {
+            Ok(runtime) => {
+                println!("cargo::rustc-link-arg-bin=fuzz={runtime}");
+                println!("cargo::rustc-link-arg-bin=fuzz=-lstdc++");
+            }
+            Err(_) => println!("cargo::error={LIBFUZZER} must name libFuzzer's runtime"),
+        }
+    }
 }

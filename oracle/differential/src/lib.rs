@@ -8,6 +8,7 @@ pub mod capi;
 pub mod compare;
 pub mod coverage;
 pub mod document;
+pub mod fuzz;
 pub mod layout;
 pub mod lists;
 pub mod port;

@@ -46,6 +46,23 @@ pub trait Player {
     fn play(&mut self, state: &mut [u64], script: &[u8], log: &mut [u8]) -> Result<Played, String>;
 }
 
+/// What a player does wrong with an array that is no state: it is refused
+/// with 8, and neither the array nor the log is touched.
+pub fn not_refused(player: &mut dyn Player, array: &[u64], script: &[u8]) -> Option<String> {
+    const FILL: [u8; 16] = [0xa5; 16];
+    let (mut words, mut log) = (array.to_vec(), FILL);
+    let expected = Played {
+        number: 8,
+        ..Played::default()
+    };
+    match player.play(&mut words, script, &mut log) {
+        Ok(met) if met == expected => {
+            (words != array || log != FILL).then(|| "state or log is changed".into())
+        }
+        met => Some(format!("{met:?}, not 8")),
+    }
+}
+
 /// The oracle's player, and the state that it leaves.
 pub fn reference(start: &Start, script: &[u8], log: &mut [u8]) -> Result<(Played, State), String> {
     let mut oracle = begun(start);

@@ -2,7 +2,7 @@
 //! number; the offset and the log bytes written come through a third array.
 use super::{
     make::Script,
-    player::{Played, Player},
+    player::{Played, Player, not_refused},
 };
 use crate::{
     compare::Start,
@@ -55,8 +55,6 @@ impl Player for ProvedPlayer {
     }
 }
 
-const LOG: [u8; 16] = [0xa5; 16];
-
 /// Arrays that are no state: each is refused with 8, and nothing is touched.
 /// Then places that are not in use, with other numbers there: every script
 /// gives the same. How many were tried, and what differs.
@@ -66,17 +64,8 @@ pub fn arrays(seed: u64) -> (u64, Vec<String>) {
     let mut refused = |what: &str, words: &[u64]| {
         for script in [&[][..], &[7], &[8], &[6, 3, 3, 1]] {
             tried += 1;
-            let (mut state, mut log) = (words.to_vec(), LOG);
-            let expected = Played {
-                number: 8,
-                ..Played::default()
-            };
-            let met = ProvedPlayer.play(&mut state, script, &mut log);
-            if met != Ok(expected) {
-                wrong.push(format!("{what}: {met:?}, not 8"));
-            }
-            if state != words || log != LOG {
-                wrong.push(format!("{what}: state or log is changed"));
+            if let Some(how) = not_refused(&mut ProvedPlayer, words, script) {
+                wrong.push(format!("{what}: {how}"));
             }
         }
     };

@@ -315,7 +315,8 @@ pub fn report(make: Make, found: &Found) -> String {
     lines.join("\n")
 }
 
-fn shown(case: &Case, difference: &Difference) -> Vec<String> {
+/// A case and its two ends, in words.
+pub fn shown(case: &Case, difference: &Difference) -> Vec<String> {
     let script: Vec<String> = case.script.iter().map(|b| format!("{b:02X}")).collect();
     let start = match &case.start {
         Start::Fresh => "a fresh port".into(),
