@@ -2,6 +2,12 @@
 #![cfg(feature = "player")]
 use differential::{
     compare::Start,
+    fuzz::{
+        input::Input,
+        mutate::mutated,
+        play::{Fuzz, proved as proved_side},
+        seeds,
+    },
     scripts::{
         list,
         player::{Player, first_words},
@@ -9,6 +15,7 @@ use differential::{
         run::{Part, gate, report, run},
     },
 };
+use model::sample::Random;
 
 fn proved() -> Box<dyn Player> {
     Box::new(ProvedPlayer)
@@ -48,4 +55,19 @@ fn replay_list() {
     }
     text.push_str(&format!("{} scripts\n", items.len()));
     assert!(text == list::printout(&items).expect("no fault"));
+}
+
+#[test]
+fn the_fuzzers_seeds() {
+    let mut fuzz = Fuzz::new(proved_side());
+    let r = &mut Random::new(1);
+    for seed in seeds::all() {
+        let mut input = Input::read(&seed);
+        for _ in 0..4 {
+            if let Err(report) = fuzz.play(&input, &mut |_| {}) {
+                panic!("{report}\n{input:?}");
+            }
+            input = mutated(input, r);
+        }
+    }
 }

@@ -128,7 +128,7 @@ impl Input {
                 0x1_0000..0x1_0000_0000 => 2,
                 _ => 3,
             };
-            bytes.push(place | width * PLACES);
+            bytes.push(place + width * PLACES);
             bytes.extend_from_slice(&number.to_le_bytes()[..1 << width]);
         }
         bytes.extend(self.log.into_iter().flat_map(u16::to_le_bytes));
