@@ -3,6 +3,7 @@
 //! stand beside them for all that is not well formed.
 use super::input::Input;
 use crate::{
+    layout::{LENGTH, MOST},
     lists::{PROFILES, halves_apart, of_profile},
     scripts::make::Script,
 };
@@ -86,6 +87,30 @@ fn changed(script: &[u8], r: &mut Random) -> Vec<u8> {
     bytes
 }
 
+/// One number of the array more, or another one there; mostly such as may
+/// stand at its place.
+fn numbered(numbers: &mut Vec<(u8, u64)>, r: &mut Random) {
+    let known = place(numbers.len().max(1), r);
+    if let Some((_, number)) = numbers.get_mut(known).filter(|_| r.bit()) {
+        *number = match r.below(3) {
+            0 => number.wrapping_add(1),
+            1 => number.wrapping_sub(1),
+            _ => *number ^ 1 << r.below(8),
+        };
+        return;
+    }
+    let at = place(LENGTH + usize::from(r.one_in(16)), r);
+    let most = MOST.get(at).copied().unwrap_or(0);
+    let number = match r.below(4) {
+        0 => most,
+        1 => u64::from(r.byte()),
+        _ => u64::from(r.byte()).min(most),
+    };
+    if numbers.len() < 255 {
+        numbers.push((at as u8, number));
+    }
+}
+
 /// The input with one part of it changed.
 pub fn mutated(mut input: Input, r: &mut Random) -> Input {
     match r.below(32) {
@@ -104,7 +129,8 @@ pub fn mutated(mut input: Input, r: &mut Random) -> Input {
             let log = crate::scripts::make::log_length(commands, r) as u16;
             input.log = r.bit().then_some(log);
         }
-        8..11 => {
+        8..10 => numbered(&mut input.numbers, r),
+        10..12 => {
             if let Some(earlier) = &mut input.earlier {
                 *earlier = changed(earlier, r);
                 earlier.truncate(255);
