@@ -39,7 +39,7 @@ use Rattle.sci.specs.Receiver.{input-level, error-free, arms, arm-receiv
 use Rattle.words.specs.Sender.{level, holds, tx-next}
 use Rattle.sci.specs.Sender.{loaded-on, preloaded-on, loaded, preloaded, preload, drive, begin, start-at, start-loaded, try-start-on, try-start, one-sent, finish-tail, tailed, next-cell, send-step-on, advance-tx}
 use Rattle.sci.specs.Clocked.{with-clock, refresh-sync-clock, take-bit, receive-bit-on, receive-bit, tail-ends-on, tail-ends, bit-out, shift-out-on, shift-out, sync-edge}
-use Rattle.sci.specs.Half.{process-basic, clocked-edge, advance}
+use Rattle.sci.specs.Half.{process-basic, clocked-edge}
 use Rattle.sci.specs.Registers.{scr-tx, scr-rx, write-scr, write-tdr, status-with, status-write, stored, connect, load-tail-on, load-tail}
 use Rattle.sci.specs.Power.{fresh, reset-registers, reset, with-power}
 use Rattle.sci.specs.Pins.{receive-input}
@@ -340,10 +340,6 @@ module _ {n : ℕ} {p : Port} (r : Ready n p) where
   pub keep-counted : n < limit → Ready (suc n) (counted p)
   keep-counted h = keep-edge-counted r (not (p .high)) h
 
-  pub keep-advance : Ready n (advance p)
-  unfolding advance
-  keep-advance = keep-refresh-sync-clock (keep-clocked-edge (keep-process-basic r))
-
 -- ---- the registers
 module _ {n : ℕ} {p : Port} (r : Ready n p) where
   pub keep-scr-tx : (was : Bool) (v : ℕ) → Ready n (scr-tx was v p)
@@ -420,9 +416,6 @@ try-start-ready r p e h = result r (try-start p) e (keep-try-start h)
 pub advance-tx-ready : (r p : Port) → r ≡ advance-tx p → Ready (p .half) p → Ready (r .half) r
 advance-tx-ready r p e h = result r (advance-tx p) e (keep-advance-tx h)
 
-pub arm-receive-ready : (r p : Port) → r ≡ arm-receive p → Ready (p .half) p → Ready (r .half) r
-arm-receive-ready r p e h = result r (arm-receive p) e (keep-arm-receive h)
-
 pub advance-rx-ready : (r p : Port) → r ≡ advance-rx p → Ready (p .half) p → Ready (r .half) r
 advance-rx-ready r p e h = result r (advance-rx p) e (keep-advance-rx h)
 
@@ -437,9 +430,6 @@ process-basic-ready r p e h = result r (process-basic p) e (keep-process-basic h
 
 pub clocked-edge-ready : (r p : Port) → r ≡ clocked-edge p → Ready (p .half) p → Ready (r .half) r
 clocked-edge-ready r p e h = result r (clocked-edge p) e (keep-clocked-edge h)
-
-pub edge-counted-ready : (r p : Port) (high : Bool) → r ≡ edge-counted p high → p .half < limit → Ready (p .half) p → Ready (r .half) r
-edge-counted-ready r p high e l h = result r (edge-counted p high) e (keep-edge-counted h high l)
 
 pub stored-ready : (r p : Port) (a v : ℕ) → r ≡ stored a v p → Ready (p .half) p → Ready (r .half) r
 stored-ready r p a v e h = result r (stored a v p) e (keep-stored h a v)
@@ -456,13 +446,12 @@ receive-input-ready r p level e h = result r (receive-input level p) e (keep-rec
 pub with-clock-ready : (r p : Port) (next : Due) (high : Bool) → r ≡ with-clock p next high → Ready (p .half) p → Ready (r .half) r
 with-clock-ready r p next high e h = result r (with-clock p next high) e (keep-clock h next high)
 
--- an edge that a call's flag says to count
-pub counts-below : (b : Bool) (level : Bool) (p : Port) → b ≡ edge-counts level p → b ≡ true → (edge-counts level p ≡ true → p .half < limit) → p .half < limit
-counts-below b level p e t h = h (sym e ∙ t)
-
 -- ---- less than ready: where a step asks only for the half count
 half-as : (r q : Port) → r ≡ q → q .half ≤ limit → r .half ≤ limit
 half-as r q e h = subst⁻¹ (λ (x : Port). x .half ≤ limit) e h
+
+pub with-rx-half : (r p : Port) (x : Receiver) → r ≡ with-rx p x → p .half ≤ limit → r .half ≤ limit
+with-rx-half r p x e h = half-as r (with-rx p x) e h
 
 pub with-power-half : (r p : Port) (a b c d : Bool) → r ≡ with-power p a b c d → p .half ≤ limit → r .half ≤ limit
 with-power-half r p a b c d e h = half-as r (with-power p a b c d) e h
@@ -476,10 +465,7 @@ reset-half r p module-on reset-on e h =
 
 -- ---- rulesets for a `requires`; a longer list of laws exhausts the search
 -- the calls of this crate that ask for a ready port, or a part of one
-pub ruleset ready = (ready-half, ready-tx, ready-rx, advance-tx-ready, advance-rx-ready, arm-receive-ready, process-basic-ready, receive-bit-ready, clocked-edge-ready, sync-edge-ready, edge-counted-ready, counts-below, with-clock-ready, load-tail-ready, try-start-ready, stored-ready, connect-ready, receive-input-ready)
-
--- the longest chain of calls, in `external_edge`, wants fewer
-pub ruleset edges = (ready-half, counts-below, edge-counted-ready, process-basic-ready, sync-edge-ready)
+pub ruleset ready = (ready-half, ready-tx, ready-rx, advance-tx-ready, advance-rx-ready, process-basic-ready, receive-bit-ready, clocked-edge-ready, sync-edge-ready, with-clock-ready, load-tail-ready, try-start-ready, stored-ready, connect-ready, receive-input-ready)
 
 -- those that ask only for the half count
 pub ruleset halved = (with-power-half, reset-half)

@@ -1,7 +1,7 @@
 -- Halves on which nothing happens only count, so that a run of them may be counted at once; and what the loop of `halves` cites.
 -- Assumes nothing.
 use mathlib.Core.Path.{_≡_, refl, sym, ap, ap₂, _∙_, subst, subst⁻¹}
-use mathlib.Core.Bool.{Bool, true, false, not, cond, _&&_}
+use mathlib.Core.Bool.{Bool, true, false, not, cond, _&&_, true≢false, false≢true}
 use Prim.Native.Nat.{ℕ, zero, suc, _+_, _-_, _%_, _≤_, _<_}
 use native.Mathlib.Omega.{arith}
 use native.Mathlib.Nat.{le-trans, zero-add, suc-add}
@@ -9,6 +9,8 @@ use lib.Dec.{eqb, ltb}
 use borrow.Author.Tests.{ne-eqb, eq-eqb, lt-ltb, ltb-true, ltb-false, eqb-true, eqb-false}
 use Rattle.frame.specs.Frame.{differ}
 use Rattle.frame.proofs.Branches.{by-cond}
+use Rattle.frame.proofs.Choose.{cond-t}
+use Rattle.frame.proofs.Truth.{and-left, and-right}
 use Rattle.words.specs.declared.Due.{Due}
 use Rattle.words.specs.declared.Due.the-variants.{Never, At}
 use Rattle.words.specs.declared.Receiver.{Receiver}
@@ -18,14 +20,15 @@ use Rattle.words.specs.Sender.{tx-next}
 use Rattle.words.specs.Receiver.{rx-next}
 use Rattle.sci.specs.declared.Port.{Port}
 use Rattle.sci.specs.Fields.{with-half, with-high, with-edge}
-use Rattle.sci.specs.Baud.{external, counted}
+use Rattle.sci.specs.Baud.{external, running, counted, edge-counted, edge-counts}
 use Rattle.sci.specs.Receiver.{arm-receive}
-use Rattle.sci.specs.Clocked.{refresh-sync-clock}
+use Rattle.sci.specs.Clocked.{refresh-sync-clock, sync-edge}
 use Rattle.sci.specs.Half.{process-basic, clocked-edge, advance, half-step, halves}
-use Rattle.sci.specs.Skip.{arms-on, clock-fresh, deadline, counted-by}
+use Rattle.sci.specs.Skip.{arms-on, clock-fresh, deadline, counted-by, edge-now, edge-level, toggled, edge-of, edge-work, Clocked, edges}
+use Rattle.sci.specs.Pins.{external-edge}
 use Rattle.sci.specs.Valid.{limit}
 use Rattle.sci.specs.Ready.{Ready}
-use Rattle.sci.proofs.Keep.{own, keep-counted, keep-advance}
+use Rattle.sci.proofs.Keep.{own, keep-process-basic, keep-sync-edge, keep-clocked-edge, keep-refresh-sync-clock, keep-counted, sync-edge-ready, clocked-edge-ready, with-clock-ready}
 use Rattle.sci.proofs.SenderKeeps.{free-sender}
 use Rattle.sci.proofs.ReceiverKeeps.{free-receiver, basic-keeps, clocked-edge-keeps, advance-keeps}
 use Rattle.sci.proofs.OnePass.{basic-still, edge-still, refresh-still, half-once}
@@ -211,13 +214,56 @@ edge-internal p x =
     let c = free-receiver Internal (λ q x s v n k. k) in
     clocked-edge-keeps Internal s c (λ q d b k. k) (process-basic p) (basic-keeps Internal s c p x)
 
--- ---- `advance` leaves out a refresh that changes nothing
-pub advance-fresh : (z c b p : Port) (f : Bool) → external p ≡ false → b ≡ process-basic p → c ≡ clocked-edge b → f ≡ clock-fresh c → f ≡ true → z ≡ c → z ≡ advance p
-unfolding advance
-advance-fresh z c b p f x eb ec ef t e =
+-- ---- the work of an edge of the basic clock
+pub toggled-ready : (q p : Port) (pin : Bool) → q ≡ toggled pin p → Ready (p .half) p → Ready (q .half) q
+toggled-ready q p true e r = with-clock-ready q p (p .«sync_next») (p .sck) e r
+toggled-ready q p false e r = with-clock-ready q p Never (not (p .sck)) e r
+
+pub edge-t : (z q p : Port) (pin level f h : Bool) → f ≡ edge-now pin p → f ≡ true → h ≡ edge-level pin level p → q ≡ toggled pin p → z ≡ sync-edge h q → z ≡ edge-of pin level p
+unfolding clocked-edge
+edge-t z q p true level f h ef t eh eq e = e ∙ ap₂ sync-edge eh eq
+edge-t z q p false level f h ef t eh eq e = cond-t (due-now (p .«sync_next») (p .half)) _ p z (sym ef ∙ t) (e ∙ ap₂ sync-edge eh eq)
+
+pub edge-f : (z p : Port) (pin level f : Bool) → f ≡ edge-now pin p → f ≡ false → z ≡ p → z ≡ edge-of pin level p
+edge-f z p true level f ef t e = absurd (true≢false (sym ef ∙ t))
+edge-f z p false level f ef t e = e ∙ sym (edge-still p (sym ef ∙ t))
+
+pub edge-ready : (r p : Port) (pin level : Bool) → r ≡ edge-of pin level p → Ready (p .half) p → Ready (r .half) r
+edge-ready r p true level e h = sync-edge-ready r p level e h
+edge-ready r p false level e h = clocked-edge-ready r p e h
+
+pub work-of : (z c b p : Port) (pin level : Bool) → b ≡ process-basic p → c ≡ edge-of pin level b → z ≡ refresh-sync-clock c → z ≡ edge-work pin level p
+work-of z c b p pin level eb ec e = e ∙ ap refresh-sync-clock (ec ∙ ap (edge-of pin level) eb)
+
+-- a refresh that changes nothing is left out
+pub work-fresh : (z c b p : Port) (pin level f : Bool) → Clocked pin 1 p → b ≡ process-basic p → c ≡ edge-of pin level b → f ≡ clock-fresh c → (f && not pin) ≡ true → z ≡ c → z ≡ edge-work pin level p
+work-fresh z c b p true level f x eb ec ef t e = absurd (false≢true (and-right f false t))
+work-fresh z c b p false level f x eb ec ef t e =
     let d : c ≡ clocked-edge (process-basic p) = ec ∙ ap clocked-edge eb in
     let y : external c ≡ false = ap external d ∙ edge-internal p x in
-    e ∙ sym (refresh-still c y (sym ef ∙ t)) ∙ ap refresh-sync-clock d
+    e ∙ sym (refresh-still c y (sym ef ∙ and-left f true t)) ∙ ap refresh-sync-clock d
+
+keep-work : {n : ℕ} {p : Port} (pin level : Bool) → Ready n p → Ready n (edge-work pin level p)
+keep-work true level r = keep-refresh-sync-clock (keep-sync-edge (keep-process-basic r) level)
+keep-work false level r = keep-refresh-sync-clock (keep-clocked-edge (keep-process-basic r))
+
+work-internal : (level : Bool) (p : Port) → Internal p → Internal (edge-work false level p)
+unfolding advance
+work-internal level p x = advance-internal p x
+
+-- an edge of the pin is counted where the phase is another, so the phase toggles
+pub pin-counts : (z p : Port) (high f : Bool) → f ≡ edge-counts high p → f ≡ true → z ≡ edge-work true high (counted p) → z ≡ external-edge high p
+unfolding external-edge
+pin-counts z p high f ef t e =
+    let counts : edge-counts high p ≡ true = sym ef ∙ t in
+    let turns : not (p .high) ≡ high = turned (p .high) high (and-right (external p) (differ (p .high) high) (and-right (running p) (external p && differ (p .high) high) counts)) in
+    cond-t (edge-counts high p) _ p z counts (e ∙ ap (λ (b : Bool). edge-work true high (edge-counted p b)) turns)
+  where
+    turned : (a b : Bool) → differ a b ≡ true → not a ≡ b
+    turned true true d = absurd (false≢true d)
+    turned true false d = refl
+    turned false true d = refl
+    turned false false d = absurd (false≢true d)
 
 -- ---- the loop: what is left makes of the port what all of them make of the first one
 halves-add : (k m : ℕ) (p : Port) → halves (k + m) p ≡ halves m (halves k p)
@@ -234,23 +280,63 @@ external-counted : (k : ℕ) (p : Port) → external (counted-by k p) ≡ extern
 unfolding counted-by
 external-counted k p = refl
 
--- a port that the loop may go on with, left halves from its end
-abbrev pub Goes : ℕ → Port → Type 0
-Goes left p = Ready (p .half) p × (p .half + left ≤ limit) × (external p ≡ false)
+-- a port that the loop may go on with, left edges from its end
+abbrev Held : Bool → ℕ → Port → Type 0
+Held true left p = left ≤ 1
+Held false left p = external p ≡ false
 
-pub counted-goes : (q p : Port) (left k : ℕ) → 1 ≤ left → Goes left p → k ≡ deadline left p → q ≡ counted-by k p → Ready (p .half + k) q × Ready (q .half) q × (external q ≡ false)
-counted-goes q p left k l g e f =
-    let y : Ready (p .half + k) q = subst⁻¹ (Ready (p .half + k)) f (keep-counted-by k (g .0) (omega (arith, g .1, deadline-bounds p left k l e .1))) in
-    (y, own q (p .half + k) y, ap external f ∙ external-counted k p ∙ g .2)
+abbrev pub Goes : Bool → ℕ → Port → Type 0
+Goes pin left p = Ready (p .half) p × (p .half + left ≤ limit) × Held pin left p
 
-pub goes-on : (r q p : Port) (left k : ℕ) → 1 ≤ left → Goes left p → k ≡ deadline left p → q ≡ counted-by k p → r ≡ advance q → Goes (left - k) r
-goes-on r q p left k l g e f d =
-    let c = counted-goes q p left k l g e f in
-    let y : Ready (p .half + k) r = subst⁻¹ (Ready (p .half + k)) d (keep-advance (c .0)) in
-    (own r (p .half + k) y, omega (arith, y .half≡, g .1, deadline-bounds p left k l e .1), ap external d ∙ advance-internal q (c .2))
+pub goes-in : (pin : Bool) (n : ℕ) (p : Port) → Ready (p .half) p × (p .half + n ≤ limit) × Clocked pin n p → Goes pin n p
+goes-in true n p h = (h .0, h .1, omega (arith, h .2))
+goes-in false n p h = h
 
-pub halves-on : (r q p p₀ : Port) (left k n : ℕ) → 1 ≤ left → Goes left p → k ≡ deadline left p → q ≡ counted-by k p → r ≡ advance q → halves left p ≡ halves n p₀ → halves (left - k) r ≡ halves n p₀
-halves-on r q p p₀ left k n l g e f d h =
-    let c = deadline-bounds p left k l e in
-    ap (halves (left - k)) (d ∙ ap advance f ∙ skip-deadline p left k (g .0) (g .2) l (g .1) e) ∙ sym (halves-add k (left - k) p)
-    ∙ ap (λ (m : ℕ). halves m p) (omega (arith, c .1)) ∙ h
+module _ (pin level : Bool) (r q p : Port) (left k : ℕ) (l : 1 ≤ left) (g : Goes pin left p) (e : k ≡ deadline left p) (f : q ≡ counted-by k p) where
+  counted-ready : Ready (p .half + k) q
+  counted-ready = subst⁻¹ (Ready (p .half + k)) f (keep-counted-by k (g .0) (omega (arith, g .1, deadline-bounds p left k l e .1)))
+
+  counted-clocked : Clocked pin 1 q
+  counted-clocked = go pin (g .2)
+    where
+      go : (b : Bool) → Held b left p → Clocked b 1 q
+      go true h = refl
+      go false h = ap external f ∙ external-counted k p ∙ h
+
+  pub counted-goes : Ready (q .half) q × Clocked pin 1 q
+  counted-goes = (own q (p .half + k) counted-ready, counted-clocked)
+
+  pub goes-on : r ≡ edge-work pin level q → Goes pin (left - k) r
+  goes-on d =
+      let y : Ready (p .half + k) r = subst⁻¹ (Ready (p .half + k)) d (keep-work pin level counted-ready) in
+      (own r (p .half + k) y, omega (arith, y .half≡, g .1, deadline-bounds p left k l e .1), go pin (g .2) counted-clocked d)
+    where
+      go : (b : Bool) → Held b left p → Clocked b 1 q → r ≡ edge-work b level q → Held b (left - k) r
+      go true h x d = omega (arith, h)
+      go false h x d = ap external d ∙ work-internal level q x
+
+  pub edges-on : (n : ℕ) (p₀ : Port) → r ≡ edge-work pin level q → edges pin level left p ≡ edges pin level n p₀ → edges pin level (left - k) r ≡ edges pin level n p₀
+  unfolding advance
+  edges-on n p₀ d h = go pin (g .2) d ∙ h
+    where
+      bounds : (1 ≤ k) × (k ≤ left)
+      bounds = deadline-bounds p left k l e
+
+      go : (b : Bool) → Held b left p → r ≡ edge-work b level q → edges b level (left - k) r ≡ edges b level left p
+      go true h d =
+          let one : left ≡ 1 = omega (arith, h, l) in
+          let all : k ≡ 1 = omega (arith, h, bounds .0, bounds .1) in
+          let none : left - k ≡ 0 = omega (arith, one, all) in
+          ap (λ (m : ℕ). edges true level m r) none ∙ d ∙ ap (edge-work true level) (f ∙ ap (λ (m : ℕ). counted-by m p) all ∙ sym (one-counted p))
+          ∙ sym (ap (λ (m : ℕ). edges true level m p) one)
+      go false h d =
+          ap (halves (left - k)) (d ∙ ap advance f ∙ skip-deadline p left k (g .0) h l (g .1) e) ∙ sym (halves-add k (left - k) p)
+          ∙ ap (λ (m : ℕ). halves m p) (omega (arith, bounds .1))
+
+pub edges-none : (pin level : Bool) (left : ℕ) (p : Port) → left ≡ 0 → p ≡ edges pin level left p
+unfolding halves
+edges-none pin level left p e = sym (ap (λ (m : ℕ). edges pin level m p) e ∙ none pin)
+  where
+    none : (b : Bool) → edges b level 0 p ≡ p
+    none true = refl
+    none false = refl

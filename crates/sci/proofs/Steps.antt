@@ -38,17 +38,17 @@ use Rattle.words.specs.declared.Receiver.the-variants.{Idle, Busy}
 use Rattle.words.specs.declared.Sampled.the-variants.{Onward, Whole}
 use Rattle.words.specs.declared.Tx.{Tx}
 use Rattle.words.specs.declared.Tx.the-variants.{Off, Blocked, Mark, Start, Data, Tail}
-use Rattle.sci.specs.Receiver.{arms, arm-receive-on, arm-receive}
+use Rattle.sci.specs.Receiver.{arms, arm-receive-on, arm-receive, advance-rx}
 use Rattle.sci.specs.Skip.{arms-on}
 use Rattle.sci.specs.Fields.{with-tx, with-rx}
 use Rattle.sci.specs.Baud.{format-of, next-fall, boundary}
 use Rattle.words.specs.Receiver.{armed, clocked-word}
 use Rattle.sci.specs.Clocked.{tail-ends-on, shift-out-on, refresh-sync-clock, sync-edge}
 use Rattle.sci.specs.Registers.{load-tail-on, sender-on}
-use Rattle.sci.specs.Sender.{try-start-on, loaded, preloaded, preload, start-loaded, tailed, one-sent}
+use Rattle.sci.specs.Sender.{try-start-on, loaded, preloaded, preload, start-loaded, tailed, one-sent, advance-tx}
 use Rattle.sci.specs.Pins.{high-or-low}
 use Rattle.sci.specs.Power.{reset, with-power}
-use Rattle.sci.specs.Half.{inside, uncounted}
+use Rattle.sci.specs.Half.{process-basic, inside, uncounted}
 use Rattle.sci.specs.Valid.{limit}
 use Rattle.words.specs.Ready.{Bounded, Placed, PlacedIn, LoadedBounded, Below, Sendable, Plain}
 
@@ -114,6 +114,26 @@ arm-t (Busy r) p z h e = absurd (false≢true h)
 pub arm-f : (x : Receiver) (p z : Port) → arms-on x p ≡ false → z ≡ p → z ≡ arm-receive-on x p
 arm-f Idle p z h e = cond-f (arms p) _ p z h e
 arm-f (Busy r) p z h e = e
+
+-- the same after the steps of a half, and before a refresh
+abbrev with-word : Port → Port
+with-word p = with-rx p (Busy (armed (format-of p) (next-fall p)))
+
+pub basic-t : (z q w p : Port) (f : Bool) → w ≡ advance-tx p → q ≡ advance-rx w → f ≡ arms-on (q .rx) q → f ≡ true → z ≡ with-word q → z ≡ process-basic p
+unfolding process-basic arm-receive
+basic-t z q w p f ew eq ef t e = arm-t (q .rx) q z (sym ef ∙ t) e ∙ ap arm-receive (eq ∙ ap advance-rx ew)
+
+pub basic-f : (z q w p : Port) (f : Bool) → w ≡ advance-tx p → q ≡ advance-rx w → f ≡ arms-on (q .rx) q → f ≡ false → z ≡ q → z ≡ process-basic p
+unfolding process-basic arm-receive
+basic-f z q w p f ew eq ef t e = arm-f (q .rx) q z (sym ef ∙ t) e ∙ ap arm-receive (eq ∙ ap advance-rx ew)
+
+pub armed-clock-t : (z q p : Port) (f : Bool) → f ≡ arms-on (p .rx) p → f ≡ true → q ≡ with-word p → z ≡ refresh-sync-clock q → z ≡ refresh-sync-clock (arm-receive p)
+unfolding arm-receive
+armed-clock-t z q p f ef t eq e = e ∙ ap refresh-sync-clock (arm-t (p .rx) p q (sym ef ∙ t) eq)
+
+pub armed-clock-f : (z p : Port) (f : Bool) → f ≡ arms-on (p .rx) p → f ≡ false → z ≡ refresh-sync-clock p → z ≡ refresh-sync-clock (arm-receive p)
+unfolding arm-receive
+armed-clock-f z p f ef t e = e ∙ ap refresh-sync-clock (arm-f (p .rx) p p (sym ef ∙ t) refl)
 
 -- ---- what the state is known to hold in an arm
 pub off-sendable : (t : Tx) → t ≡ Off → Sendable t
@@ -307,9 +327,6 @@ pub power-of : (z r p : Port) (module-on main-on sub-on reset-on : Bool) → z �
 power-of z r p module-on main-on sub-on reset-on e h =
     e ∙ ap (λ (q : Port). refresh-sync-clock (with-power q module-on main-on sub-on reset-on)) h
 
--- the ends of two chains
+-- the end of a chain
 pub armed-clock-of : (z p q : Port) → z ≡ refresh-sync-clock (arm-receive p) → p ≡ q → z ≡ refresh-sync-clock (arm-receive q)
 armed-clock-of z p q e h = e ∙ ap (λ (x : Port). refresh-sync-clock (arm-receive x)) h
-
-pub clocked-to-of : (z p q : Port) (b : Bool) → z ≡ refresh-sync-clock (sync-edge b p) → p ≡ q → z ≡ refresh-sync-clock (sync-edge b q)
-clocked-to-of z p q b e h = e ∙ ap (λ (x : Port). refresh-sync-clock (sync-edge b x)) h

@@ -24,7 +24,7 @@ use Rattle.sci.specs.Power.{carried, reset-registers, reset, with-power,
 use Rattle.sci.specs.Receiver.{arm-receive-on, arm-receive, complete-receive, after-sample, advance-rx-on, advance-rx}
 use Rattle.sci.specs.Registers.{read, sender-off, sender-on, scr-tx, scr-rx, write-scr, write-tdr, status-with, status-write, stored, connect, fill-tail, load-tail-on, load-tail, settled, write}
 use Rattle.sci.specs.Sender.{preloaded-on, preloaded, preload, drive, begin, start-at, start-loaded, try-start-on, try-start, one-sent, finish-tail, tailed, next-cell, send-step-on, advance-tx-on, advance-tx}
-use Rattle.sci.specs.Skip.{counted-by}
+use Rattle.sci.specs.Skip.{counted-by, toggled, edge-of, edge-work, edges}
 
 pub counted-of : (z : Port) (x0 y0 : Port) → z ≡ counted x0 → x0 ≡ y0 → z ≡ counted y0
 counted-of z x0 y0 e h0 = e ∙ (λ j. counted (h0 j))
@@ -250,3 +250,15 @@ advance-tx-of z x0 y0 e h0 = e ∙ (λ j. advance-tx (h0 j))
 
 pub counted-by-of : (z : Port) (x0 y0 : ℕ) (x1 y1 : Port) → z ≡ counted-by x0 x1 → x0 ≡ y0 → x1 ≡ y1 → z ≡ counted-by y0 y1
 counted-by-of z x0 y0 x1 y1 e h0 h1 = e ∙ (λ j. counted-by (h0 j) (h1 j))
+
+pub toggled-of : (z : Port) (x0 y0 : Bool) (x1 y1 : Port) → z ≡ toggled x0 x1 → x0 ≡ y0 → x1 ≡ y1 → z ≡ toggled y0 y1
+toggled-of z x0 y0 x1 y1 e h0 h1 = e ∙ (λ j. toggled (h0 j) (h1 j))
+
+pub edge-of-of : (z : Port) (x0 y0 : Bool) (x1 y1 : Bool) (x2 y2 : Port) → z ≡ edge-of x0 x1 x2 → x0 ≡ y0 → x1 ≡ y1 → x2 ≡ y2 → z ≡ edge-of y0 y1 y2
+edge-of-of z x0 y0 x1 y1 x2 y2 e h0 h1 h2 = e ∙ (λ j. edge-of (h0 j) (h1 j) (h2 j))
+
+pub edge-work-of : (z : Port) (x0 y0 : Bool) (x1 y1 : Bool) (x2 y2 : Port) → z ≡ edge-work x0 x1 x2 → x0 ≡ y0 → x1 ≡ y1 → x2 ≡ y2 → z ≡ edge-work y0 y1 y2
+edge-work-of z x0 y0 x1 y1 x2 y2 e h0 h1 h2 = e ∙ (λ j. edge-work (h0 j) (h1 j) (h2 j))
+
+pub edges-of : (z : Port) (x0 y0 : Bool) (x1 y1 : Bool) (x2 y2 : ℕ) (x3 y3 : Port) → z ≡ edges x0 x1 x2 x3 → x0 ≡ y0 → x1 ≡ y1 → x2 ≡ y2 → x3 ≡ y3 → z ≡ edges y0 y1 y2 y3
+edges-of z x0 y0 x1 y1 x2 y2 x3 y3 e h0 h1 h2 h3 = e ∙ (λ j. edges (h0 j) (h1 j) (h2 j) (h3 j))

@@ -1,19 +1,24 @@
--- How `halves` skips the halves on which nothing happens (sci.rs: `deadline` and `step_to`). No public contract cites this file; proofs/Skip.antt proves
--- that what it says makes of a port what its halves make of it one by one.
+-- What the private steps of a half and of a clock pin's edge compute, where document 01 has no name for it: among it, how halves on which nothing happens
+-- are skipped (sci.rs: `deadline` and `step_to`). No public contract cites this file; proofs/Skip.antt proves that it makes of a port what the halves of
+-- Half.antt make of it one by one.
 -- Assumes nothing.
-use Prim.Native.Nat.{ℕ, _+_, _%_}
+use mathlib.Core.Path.{_≡_}
+use Prim.Native.Nat.{ℕ, zero, suc, _+_, _%_}
 use mathlib.Core.Bool.{Bool, true, false, cond, not, _&&_}
 use lib.Dec.{eqb}
 use Rattle.frame.specs.Frame.{differ}
 use Rattle.words.specs.declared.Receiver.{Receiver}
 use Rattle.words.specs.declared.Receiver.the-variants.{Idle, Busy}
-use Rattle.words.specs.Due.{absent, within}
+use Rattle.words.specs.declared.Due.the-variants.{Never}
+use Rattle.words.specs.Due.{absent, due-now, within}
 use Rattle.words.specs.Sender.{tx-next}
 use Rattle.words.specs.Receiver.{rx-next}
 use Rattle.sci.specs.declared.Port.{Port}
 use Rattle.sci.specs.Fields.{with-half, with-high, with-edge}
+use Rattle.sci.specs.Baud.{external, counted}
 use Rattle.sci.specs.Receiver.{arms}
-use Rattle.sci.specs.Clocked.{sync-needed}
+use Rattle.sci.specs.Clocked.{sync-needed, with-clock, refresh-sync-clock, sync-edge}
+use Rattle.sci.specs.Half.{process-basic, clocked-edge, halves}
 
 -- a word begins at the next half, whatever is due
 abbrev pub arms-on : Receiver → Port → Bool
@@ -35,3 +40,31 @@ deadline left p =
 -- k halves counted at once, k not 0
 unfoldable pub counted-by : ℕ → Port → Port
 counted-by k p = with-edge (with-high (with-half p (p .half + k)) (differ (p .high) (not (eqb (k % 2) 0)))) true
+
+-- ---- an edge of the basic clock, counted: a half of the internal one, or with the flag `pin` an edge of the clock pin to a level
+-- the edge of clocked form's clock that comes with it, if one does: the pin's, or the port's own at its due half
+abbrev pub edge-now : Bool → Port → Bool
+edge-now pin p = cond pin true (due-now (p .«sync_next») (p .half))
+
+abbrev pub edge-level : Bool → Bool → Port → Bool
+edge-level pin level p = cond pin level (not (p .sck))
+
+abbrev pub toggled : Bool → Port → Port
+toggled pin p = cond pin p (with-clock p Never (not (p .sck)))
+
+abbrev pub edge-of : Bool → Bool → Port → Port
+edge-of pin level p = cond pin (sync-edge level p) (clocked-edge p)
+
+-- all its work
+abbrev pub edge-work : Bool → Bool → Port → Port
+edge-work pin level p = refresh-sync-clock (edge-of pin level (process-basic p))
+
+-- one edge of the pin, or any number of the internal clock's
+abbrev pub Clocked : Bool → ℕ → Port → Type 0
+Clocked true n p = n ≡ 1
+Clocked false n p = external p ≡ false
+
+abbrev pub edges : Bool → Bool → ℕ → Port → Port
+edges true level zero p = p
+edges true level (suc n) p = edge-work true level (counted p)
+edges false level n p = halves n p

@@ -7,14 +7,14 @@ ghost use lib.Dec.{leb};
 ghost use Rattle.words.specs.declared.Receiver.the-variants.{Idle, Busy};
 ghost use Rattle.words.specs.declared.Tx.the-variants.{Off};
 ghost use Rattle.sci.specs.Fields.{with-ssr, with-rdr, with-received, with-holding, with-tx, with-rx, with-sync-next, with-input-clock};
-ghost use Rattle.sci.specs.Baud.{format-of, external, running, internal, edge-counted, edge-counts, next-fall, boundary};
+ghost use Rattle.sci.specs.Baud.{format-of, external, running, internal, edge-counts, next-fall, boundary};
 ghost use Rattle.words.specs.Receiver.{armed, started, bit-at, stepped, sample, bit-taken};
 ghost use Rattle.sci.specs.Receiver.{input-level, arms, arm-receive, complete-receive, after-sample, advance-rx};
 ghost use Rattle.words.specs.Sender.{level};
 ghost use Rattle.sci.specs.Sender.{character, preload, drive, begin, start-at, start-loaded, try-start-on, try-start, one-sent, finish-tail, tailed, next-cell, send-step-on, advance-tx};
 ghost use Rattle.sci.specs.Clocked.{sync-needed, refresh-sync-clock, take-bit, receive-bit-on, receive-bit, tail-ends, bit-out, shift-out, sync-edge};
-ghost use Rattle.sci.specs.Half.{process-basic, clocked-edge, advance, halves, inside, uncounted};
-ghost use Rattle.sci.specs.Skip.{arms-on, clock-fresh, deadline, counted-by};
+ghost use Rattle.sci.specs.Half.{process-basic, inside, uncounted};
+ghost use Rattle.sci.specs.Skip.{arms-on, edge-now, edge-level, toggled, edge-of, edge-work, clock-fresh, deadline, counted-by, Clocked, edges};
 ghost use Rattle.sci.specs.Registers.{handles, peek, read, sender-off, sender-on, scr-tx, write-scr, write-tdr, status-write, stored, connect, load-tail, settled, write};
 ghost use Rattle.sci.specs.Power.{fresh, carried, reset-registers, reset, set-power};
 ghost use Rattle.sci.specs.Pins.{receive-input, external-edge, pins-change, transmit-level, clock-level, clock-drive, pins, interrupt, level-number};
@@ -510,17 +510,6 @@ impl Port {
         self.half + 2
     }
 
-    // An edge of the basic clock, to this phase.
-    fn edge_counted(mut self, high: bool) -> Port
-        requires { ⌜ self .half < limit ⌝ }
-        ensures { λ r. ⌜ r ≡ edge-counted self high ⌝ }
-    {
-        self.half = self.half + 1;
-        self.high = high;
-        self.edge = true;
-        self
-    }
-
     // Time passes inside the half.
     fn inside(mut self) -> Port
         ensures { λ r. ⌜ r ≡ inside self ⌝ }
@@ -537,7 +526,9 @@ impl Port {
     {
         if level != self.input {
             self.input = level;
-            return self.arm_receive();
+            if self.arms_now() {
+                return self.armed();
+            }
         }
         self
     }
@@ -830,7 +821,10 @@ impl Port {
         requires { ⌜ Ready (self .half) self ⌝ }
         ensures { λ r. ⌜ r ≡ refresh-sync-clock (arm-receive self) ⌝ }
     {
-        self.arm_receive().refresh_sync_clock()
+        if self.arms_now() {
+            return self.armed().refresh_sync_clock();
+        }
+        self.refresh_sync_clock()
     }
 
     fn written(self, a: u32, v: u8) -> Port
@@ -1074,16 +1068,6 @@ impl Port {
         self.with_rx(Receiver::Busy(rx))
     }
 
-    fn arm_receive(self) -> Port
-        requires { ⌜ self .half ≤ limit ⌝ }
-        ensures { λ r. ⌜ r ≡ arm-receive self ⌝ }
-    {
-        if self.arms_now() {
-            return self.armed();
-        }
-        self
-    }
-
     // RDR takes a word without error.
     fn received_word(mut self, value: u8) -> Port
         ensures { λ r. ⌜ r ≡ with-received (with-ssr (with-rdr self value) (bitOr (self .ssr) 0x40)) (suc (self .received) % 2 ^ 64) ⌝ }
@@ -1286,23 +1270,9 @@ impl Port {
         ensures { λ r. ⌜ r ≡ external-edge high self ⌝ }
     {
         if self.edge_counts(high) {
-            return self.counted_edge(high);
+            return self.edges(1, true, high);
         }
         self
-    }
-
-    fn counted_edge(self, high: bool) -> Port
-        requires { ⌜ Ready (self .half) self × (self .half < limit) ⌝ }
-        ensures { λ r. ⌜ r ≡ refresh-sync-clock (sync-edge high (process-basic (edge-counted self high))) ⌝ }
-    {
-        self.edge_counted(high).process_basic().clocked_to(high)
-    }
-
-    fn clocked_to(self, high: bool) -> Port
-        requires { ⌜ Ready (self .half) self ⌝ }
-        ensures { λ r. ⌜ r ≡ refresh-sync-clock (sync-edge high self) ⌝ }
-    {
-        self.sync_edge(high).refresh_sync_clock()
     }
 
     fn pins_change(self, clock: bool, line: bool) -> bool
@@ -1326,24 +1296,56 @@ impl Port {
         requires { ⌜ Ready (self .half) self ⌝ }
         ensures { λ r. ⌜ r ≡ process-basic self ⌝ }
     {
-        self.advance_tx().advance_rx().arm_receive()
+        let port = self.advance_tx().advance_rx();
+        if port.arms_now() {
+            return port.armed();
+        }
+        port
     }
 
-    // The clock of clocked form toggles, at its due half.
-    fn clocked_edge(mut self) -> Port
-        requires { ⌜ Ready (self .half) self ⌝ }
-        ensures { λ r. ⌜ r ≡ clocked-edge self ⌝ }
+    // Whether the clock of clocked form has an edge: the pin's, or the port's own at its due half.
+    fn edge_now(self, pin: bool) -> bool
+        ensures { λ r. ⌜ r ≡ edge-now pin self ⌝ }
     {
+        if pin {
+            return true;
+        }
         let next = self.sync_next;
         let Due::At(edge) = next else {
-            return self;
+            return false;
         };
-        if edge != self.half {
+        edge == self.half
+    }
+
+    // The level after it.
+    fn edge_level(self, pin: bool, level: bool) -> bool
+        ensures { λ r. ⌜ r ≡ edge-level pin level self ⌝ }
+    {
+        if pin {
+            return level;
+        }
+        !self.sck
+    }
+
+    fn toggled(mut self, pin: bool) -> Port
+        ensures { λ r. ⌜ r ≡ toggled pin self ⌝ }
+    {
+        if pin {
             return self;
         }
-        let high = !self.sck;
-        self.sck = high;
-        self.with_sync_next(Due::Never).sync_edge(high)
+        self.sck = !self.sck;
+        self.with_sync_next(Due::Never)
+    }
+
+    fn clocked_edge(self, pin: bool, level: bool) -> Port
+        requires { ⌜ Ready (self .half) self ⌝ }
+        ensures { λ r. ⌜ r ≡ edge-of pin level self ⌝ }
+    {
+        if self.edge_now(pin) {
+            let high = self.edge_level(pin, level);
+            return self.toggled(pin).sync_edge(high);
+        }
+        self
     }
 
     // Whether the clock of clocked form is as a refresh leaves it.
@@ -1358,13 +1360,14 @@ impl Port {
         absent & self.sck
     }
 
-    // The work of a half of the internal clock, once it is counted.
-    fn advance(self) -> Port
-        requires { ⌜ Ready (self .half) self × (external self ≡ false) ⌝ }
-        ensures { λ r. ⌜ r ≡ advance self ⌝ }
+    // The work of an edge of the basic clock, once it is counted.
+    fn advance(self, pin: bool, level: bool) -> Port
+        requires { ⌜ Ready (self .half) self × Clocked pin 1 self ⌝ }
+        ensures { λ r. ⌜ r ≡ edge-work pin level self ⌝ }
     {
-        let port = self.process_basic().clocked_edge();
-        if port.clock_fresh() {
+        let port = self.process_basic().clocked_edge(pin, level);
+        let fresh = port.clock_fresh();
+        if fresh & !pin {
             return port;
         }
         port.refresh_sync_clock()
@@ -1401,16 +1404,17 @@ impl Port {
         self
     }
 
-    // n halves of the internal clock. From one at which something may happen to the next they are counted at once.
-    fn halves(self, n: u32) -> Port
-        requires { ⌜ Ready (self .half) self × (self .half + n ≤ limit) × (external self ≡ false) ⌝ }
-        ensures { λ r. ⌜ r ≡ halves n self ⌝ }
+    // n halves of the internal clock, or one edge of the clock pin to its level. From a half at which something may happen to the next they are counted at
+    // once. Both are here, so that the work of an edge has one caller and the compiler keeps the port's fields apart in the loop.
+    fn edges(self, n: u32, pin: bool, level: bool) -> Port
+        requires { ⌜ Ready (self .half) self × (self .half + n ≤ limit) × Clocked pin n self ⌝ }
+        ensures { λ r. ⌜ r ≡ edges pin level n self ⌝ }
     {
         let mut port = self;
         let mut left = n;
         while left > 0 {
             let k = port.deadline(left);
-            port = port.counted_by(k).advance();
+            port = port.counted_by(k).advance(pin, level);
             left = left - k;
         }
         port
@@ -1558,7 +1562,7 @@ impl Port {
             }
             if self.internal() {
                 if self.half + n <= LIMIT {
-                    return self.halves(n).done(0);
+                    return self.edges(n, false, false).done(0);
                 }
                 return self.refuse(Refusal::Count);
             }
