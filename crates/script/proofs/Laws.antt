@@ -14,13 +14,11 @@ use lib.Dec.{ltb, eqb}
 use borrow.Rule.Slice.PartAt.{part-to-end}
 use borrow.Rule.Slice.PartMut.{putMid, same-len-mid}
 use borrow.Author.Tests.{lt-ltb, le-ltb, ltb-false, eqb-false}
-use borrow.Author.Needs.{needs}
 use Rattle.store.proofs.Laws.{split}
-use Rattle.script.specs.declared.Fault.{Fault}
 use Rattle.script.specs.declared.Fault.the-variants.{Short, Number as NotANumber}
 use Rattle.script.specs.declared.Number.{Number}
 use Rattle.script.specs.declared.Number.the-variants.{Value, Refused}
-use Rattle.script.specs.Number.{breaks, groups, with-group, value-of}
+use Rattle.script.specs.Number.{breaks, groups, with-group, number-at}
 use Rattle.script.specs.Encode.{encode-in, encode}
 
 -- ---- reading
@@ -48,76 +46,98 @@ not-zero more b e h =
 pub fifth : (b : ℕ) → breaks 0 b ≡ false → b ≤ 15
 fifth b e = ltb-false 15 b (neither-right (eqb b 0) (ltb 15 b) e)
 
--- so another may follow a byte with its top bit set
-follows : (more b : ℕ) → breaks more b ≡ false → 128 ≤ b → more ≡ 0 → ⊥
-follows zero b e h z = omega (arith, fifth b e)
-follows (suc k) b e h z = omega arith
-
 pow-above : (m : ℕ) → 1 ≤ 128 ^ m
 pow-above m = omega (arith, pow-le-pow-right {n = 128} (omega arith) {i = 0} {j = m} (omega arith))
-
-pow-down : (m : ℕ) → (m ≡ 0 → ⊥) → 128 ^ m ≡ 128 * 128 ^ (m - 1)
-pow-down m h =
-    let e : m ≡ suc (m - 1) = omega arith in
-    ap (λ (k : ℕ). 128 ^ k) e ∙ pow-step 128 (m - 1)
 
 -- the bound of a number's last byte
 pub last-bound : (more b : ℕ) → breaks more b ≡ false → b < 128 → b < 16 * 128 ^ more
 last-bound zero b e h = omega (arith, fifth b e)
 last-bound (suc k) b e h = rw (pow-step 128 k) (omega (arith, pow-above k))
 
--- ---- what `search` is handed in the proof of `read_groups`, where `t` is the answer of the test `breaks` of the byte
+-- ---- the loop of `read_number`
 
-module _ (s : List ℕ) (at more : ℕ) where
-  step : at < length s →
-      groups more at (drop at s) ≡
-      cond (breaks more (getD s at 0)) (Refused NotANumber)
-      (cond (ltb (getD s at 0) 128) (Value (getD s at 0) (at + 1)) (with-group (getD s at 0) (groups (more - 1) (at + 1) (drop (at + 1) s))))
-  step h = rw (drop-next s at h)
+-- a number whose groups before came to `value`, where the next group counts `scale`
+abbrev pub shifted : ℕ → ℕ → Number → Number
+shifted scale value (Value v next) = Value (value + scale * v) next
+shifted scale value (Refused why) = Refused why
 
-  pub ends-here : length s ≤ at → Refused Short ≡ groups more at (drop at s)
-  ends-here h = rw (drop-of-length-le s h)
+not-shifted : (r : Number) → r ≡ shifted 1 0 r
+not-shifted (Value v next) = ap (λ (n : ℕ). Value n next) (omega arith)
+not-shifted (Refused why) = refl
 
-  pub breaks-here : (t : Bool) → at < length s → t ≡ breaks more (getD s at 0) → t ≡ true → Refused NotANumber ≡ groups more at (drop at s)
-  breaks-here t h e f = rw (step h, sym e ∙ f)
+shifted-on : (scale value b : ℕ) (r : Number) → shifted scale value (with-group b r) ≡ shifted (scale * 128) (value + scale * (b - 128)) r
+shifted-on scale value b (Value v next) = ap (λ (n : ℕ). Value n next) (omega arith)
+shifted-on scale value b (Refused why) = refl
 
-  module _ (t : Bool) (h : at < length s) (e : t ≡ breaks more (getD s at 0)) (f : t ≡ false) where
-    pub last-here : getD s at 0 < 128 → Value (getD s at 0) (at + 1) ≡ groups more at (drop at s)
-    last-here g = rw (step h, sym e ∙ f, lt-ltb _ _ g)
+-- what holds before each turn
+pub record Reading (s : List ℕ) (at value scale more i : ℕ) : Type 0 where
+  pub so-far : number-at s at ≡ shifted scale value (groups more i (drop i s))
+  pub left : more ≤ 4
+  pub power : scale ≡ 128 ^ (4 - more)
+  pub below : value < scale
 
-    -- `r` is the rest of the number
-    pub rest-refused : (r : Number) (why : Fault) → 128 ≤ getD s at 0 → r ≡ groups (more - 1) (at + 1) (drop (at + 1) s) → r ≡ Refused why →
-        r ≡ groups more at (drop at s)
-    rest-refused r why g u q = q ∙ rw (step h, sym e ∙ f, le-ltb _ _ g, sym u ∙ q)
+pub starts : (s : List ℕ) (at : ℕ) → Reading s at 0 1 4 at
+starts s at = record { so-far = not-shifted _; left = omega arith; power = refl; below = omega arith }
 
-    pub rest-read : (r : Number) (v next : ℕ) → 128 ≤ getD s at 0 → r ≡ groups (more - 1) (at + 1) (drop (at + 1) s) → r ≡ Value v next →
-        Value (getD s at 0 - 128 + 128 * v) next ≡ groups more at (drop at s)
-    rest-read r v next g u q = rw (step h, sym e ∙ f, le-ltb _ _ g, sym u ∙ q)
+-- the sum of a number's last byte fits
+last-sum : (more b value : ℕ) → more ≤ 4 → value < 128 ^ (4 - more) → breaks more b ≡ false → b < 128 →
+    value + 128 ^ (4 - more) * b < 4294967296
+last-sum zero b value h g e u = omega (arith, fifth b e)
+last-sum (suc zero) b value h g e u = omega arith
+last-sum (suc (suc zero)) b value h g e u = omega arith
+last-sum (suc (suc (suc zero))) b value h g e u = omega arith
+last-sum (suc (suc (suc (suc zero)))) b value h g e u = omega arith
+last-sum (suc (suc (suc (suc (suc k))))) b value h g e u = absurd (omega arith)
 
-pub no-value : (more : ℕ) → 0 < 16 * 128 ^ more
-no-value more = omega (arith, pow-above more)
+-- a byte with its top bit set: another may follow, whose power fits, and the sum stays below that
+pub record Group (value scale more b : ℕ) : Type 0 where
+  pub one : 1 ≤ more
+  pub scaled : scale * 128 ≤ 268435456
+  pub power : scale * 128 ≡ 128 ^ (4 - (more - 1))
+  pub below : value + scale * (b - 128) < scale * 128
 
-pub refused-small : (more : ℕ) (r : Number) (why : Fault) → r ≡ Refused why → value-of r < 16 * 128 ^ more
-refused-small more r why q = rw q (no-value more)
+group : (more b value : ℕ) → more ≤ 4 → value < 128 ^ (4 - more) → breaks more b ≡ false → 128 ≤ b → b < 256 →
+    Group value (128 ^ (4 - more)) more b
+group zero b value h g e u w = absurd (omega (arith, fifth b e))
+group (suc zero) b value h g e u w = omega arith
+group (suc (suc zero)) b value h g e u w = omega arith
+group (suc (suc (suc zero))) b value h g e u w = omega arith
+group (suc (suc (suc (suc zero)))) b value h g e u w = omega arith
+group (suc (suc (suc (suc (suc k))))) b value h g e u w = absurd (omega arith)
 
-module _ (more b : ℕ) (t : Bool) (e : t ≡ breaks more b) (f : t ≡ false) where
-  pub last-small : b < 128 → b < 16 * 128 ^ more
-  last-small g = last-bound more b (sym e ∙ f) g
+module _ (s : List ℕ) (at value scale more i : ℕ) (h : Reading s at value scale more i) where
+  pub read-short : length s ≤ i → Refused Short ≡ number-at s at
+  read-short g = sym (h .so-far ∙ rw (drop-of-length-le s g))
 
-  module _ (g : 128 ≤ b) where
-    pub one-less : 1 ≤ more
-    one-less = omega (arith, follows more b (sym e ∙ f) g)
+  -- `t` is the answer of the test `breaks` of the byte
+  module _ (g : i < length s) (t : Bool) (e : t ≡ breaks more (getD s i 0)) where
+    step : groups more i (drop i s) ≡
+        cond t (Refused NotANumber)
+        (cond (ltb (getD s i 0) 128) (Value (getD s i 0) (i + 1)) (with-group (getD s i 0) (groups (more - 1) (i + 1) (drop (i + 1) s))))
+    step = rw (drop-next s i g, e)
 
-    -- what `read_groups` asks of `more`, for the rest
-    pub fewer : 128 ^ more ≤ 268435456 → 128 ^ (more - 1) ≤ 268435456
-    fewer h = omega (arith, pow-down more (follows more b (sym e ∙ f) g))
+    pub read-broken : t ≡ true → Refused NotANumber ≡ number-at s at
+    read-broken f = sym (h .so-far ∙ rw (step, f))
 
-    -- the whole number keeps the bound, where its rest r does
-    module _ (r : Number) (v next : ℕ) (q : r ≡ Value v next) (small : value-of r < 16 * 128 ^ (more - 1)) where
-      pub rest-small : b < 256 → b - 128 + 128 * v < 16 * 128 ^ more
-      rest-small u = omega (arith, pow-down more (follows more b (sym e ∙ f) g), rw q at small)
+    module _ (f : t ≡ false) where
+      pub read-last : getD s i 0 < 128 → Value (value + scale * getD s i 0) (i + 1) ≡ number-at s at
+      read-last u = sym (h .so-far ∙ rw (step, f, lt-ltb _ _ u))
 
-pub ruleset reading-groups = (ends-here, breaks-here, last-here, rest-refused, rest-read, no-value, refused-small, last-small, one-less, fewer, rest-small, needs)
+      pub last-fits : getD s i 0 < 128 → value + scale * getD s i 0 < 4294967296
+      last-fits u = rw (h .power) (last-sum more (getD s i 0) value (h .left) (rw (h .power) at (h .below)) (sym e ∙ f) u)
+
+      module _ (u : 128 ≤ getD s i 0) (w : getD s i 0 < 256) where
+        pub read-group : Group value scale more (getD s i 0)
+        read-group = rw (h .power) (group more (getD s i 0) value (h .left) (rw (h .power) at (h .below)) (sym e ∙ f) u w)
+
+        pub read-on : Reading s at (value + scale * (getD s i 0 - 128)) (scale * 128) (more - 1) (i + 1)
+        read-on =
+            record {
+              so-far = h .so-far ∙ rw (step, f, le-ltb _ _ u) (shifted-on scale value (getD s i 0) (groups (more - 1) (i + 1) (drop (i + 1) s)));
+              left = omega (arith, h .left);
+              power = read-group .power;
+              below = read-group .below;
+            }
 
 -- ---- writing
 

@@ -4,7 +4,7 @@ ghost use Prim.Native.Nat.{_+_, _*_, _^_, _≤_, _<_};
 ghost use mathlib.Core.List.{[], _∷_, _++_};
 ghost use lib.ListN.{length, drop};
 ghost use Rattle.store.specs.Store.{Stored};
-ghost use Rattle.script.specs.Number.{fault-number, breaks, groups, number-at, value-of};
+ghost use Rattle.script.specs.Number.{fault-number, breaks, number-at};
 ghost use Rattle.script.specs.Encode.{encode-in, encode};
 ghost use Rattle.script.specs.Command.{operands-of, command-of, operand-at, and-then, command-at};
 ghost use Rattle.script.specs.Write.{kind, encode-all, bytes, answered, put};
@@ -49,40 +49,31 @@ fn breaks(more: u32, b: u32) -> bool
     (more < 4) & (b == 0) | (more == 0) & (15 < b)
 }
 
-// The number from a byte of it on; `more` bytes may follow that byte.
-fn read_groups(s: &[u8], at: usize, more: u32) -> Number
-    requires { ⌜ 128 ^ more ≤ 268435456 ⌝ }
-    ensures equal { λ r. ⌜ r ≡ groups more at (drop at (now (s .entry))) ⌝ }
-    ensures bounded { λ r. ⌜ value-of r < 16 * 128 ^ more ⌝ }
-{
-    if s.len() <= at {
-        return Number::Refused(Fault::Short);
-    }
-    let b = s[at] as u32;
-    if breaks(more, b) {
-        return Number::Refused(Fault::Number);
-    }
-    if b < 128 {
-        return Number::Value {
-            value: b,
-            next: at + 1,
-        };
-    }
-    let rest = read_groups(s, at + 1, more - 1);
-    let Number::Value { value, next } = rest else {
-        return rest;
-    };
-    Number::Value {
-        value: b - 128 + 128 * value,
-        next,
-    }
-}
-
-// The number at an offset of the script.
+// The number at an offset of the script; `more` bytes may follow the byte at `i`.
 pub fn read_number(s: &[u8], at: usize) -> Number
     ensures { λ r. ⌜ r ≡ number-at (now (s .entry)) at ⌝ }
 {
-    read_groups(s, at, 4)
+    let mut value: u32 = 0;
+    let mut scale: u32 = 1;
+    let mut more: u32 = 4;
+    let mut i = at;
+    while i < s.len() {
+        let b = s[i] as u32;
+        if breaks(more, b) {
+            return Number::Refused(Fault::Number);
+        }
+        if b < 128 {
+            return Number::Value {
+                value: value + scale * b,
+                next: i + 1,
+            };
+        }
+        value = value + scale * (b - 128);
+        scale = scale * 128;
+        more = more - 1;
+        i = i + 1;
+    }
+    Number::Refused(Fault::Short)
 }
 
 // An operand: a number of at most `max`.
