@@ -39,8 +39,3 @@ groups more at (b ∷ s) =
 -- the number at an offset of the script
 abbrev pub number-at : List ℕ → ℕ → Number
 number-at s at = groups 4 at (drop at s)
-
--- the value, 0 where there is none
-abbrev pub value-of : Number → ℕ
-value-of (Value v next) = v
-value-of (Refused why) = 0
