@@ -8,7 +8,7 @@ use native.Mathlib.Nat.{le-trans, zero-add, suc-add}
 use lib.Dec.{eqb, ltb}
 use borrow.Author.Tests.{ne-eqb, eq-eqb, lt-ltb, ltb-true, ltb-false, eqb-true, eqb-false}
 use Rattle.frame.specs.Frame.{differ}
-use Rattle.frame.proofs.Branches.{by-cond}
+use Rattle.frame.proofs.Branches.{by-cond, not-true}
 use Rattle.frame.proofs.Choose.{cond-t}
 use Rattle.frame.proofs.Truth.{and-left, and-right}
 use Rattle.words.specs.declared.Due.{Due}
@@ -24,7 +24,7 @@ use Rattle.sci.specs.Baud.{external, running, counted, edge-counted, edg
 use Rattle.sci.specs.Receiver.{arm-receive}
 use Rattle.sci.specs.Clocked.{refresh-sync-clock, sync-edge}
 use Rattle.sci.specs.Half.{process-basic, clocked-edge, advance, half-step, halves}
-use Rattle.sci.specs.Skip.{arms-on, clock-fresh, deadline, counted-by, edge-now, edge-level, toggled, edge-of, edge-work, Clocked, edges}
+use Rattle.sci.specs.Skip.{arms-on, clock-fresh, deadline, counted-by, idle-for, edge-now, edge-level, toggled, edge-of, edge-work, Clocked, edges}
 use Rattle.sci.specs.Pins.{external-edge}
 use Rattle.sci.specs.Valid.{limit}
 use Rattle.sci.specs.Ready.{Ready}
@@ -142,6 +142,51 @@ skip zero p r l x s = one-half p r (omega (arith, l)) x
 skip (suc k) p r l x s =
     let c : half-step p ≡ counted p = half-once r (omega (arith, l)) x ∙ advance-still k p x s in
     ap (halves (suc k)) c ∙ skip k (counted p) (keep-counted r (omega (arith, l))) (omega (arith, l)) x (still-counted k p s) ∙ ap advance (then-counted (suc k) p)
+
+-- k halves that all only count
+all-still : {n : ℕ} (k : ℕ) (p : Port) → Ready n p → n + suc k ≤ limit → external p ≡ false → Still (suc k) p → halves (suc k) p ≡ counted-by (suc k) p
+unfolding halves
+all-still zero p r l x s = half-once r (omega (arith, l)) x ∙ advance-still zero p x s ∙ one-counted p
+all-still (suc k) p r l x s =
+    let c : half-step p ≡ counted p = half-once r (omega (arith, l)) x ∙ advance-still (suc k) p x s in
+    ap (halves (suc k)) c ∙ all-still k (counted p) (keep-counted r (omega (arith, l))) (omega (arith, l)) x (still-counted (suc k) p s) ∙ then-counted (suc k) p
+
+idle-still : (n : ℕ) (p : Port) → idle-for n p ≡ true → (0 < n) × Still n p
+unfolding idle-for
+idle-still n p e =
+    let a : Bool = not (arms-on (p .rx) p) in
+    let f : Bool = clock-fresh p in
+    let s : Bool = ltb n (within (tx-next (p .tx)) (p .half) (n + 1)) in
+    let r : Bool = ltb n (within (rx-next (p .rx)) (p .half) (n + 1)) in
+    let c : Bool = ltb n (within (p .«sync_next») (p .half) (n + 1)) in
+    let some : ltb 0 n ≡ true = and-left (ltb 0 n) (a && (f && (s && (r && c)))) e in
+    let afsrc : (a && (f && (s && (r && c)))) ≡ true = and-right (ltb 0 n) (a && (f && (s && (r && c)))) e in
+    let fsrc : (f && (s && (r && c))) ≡ true = and-right a (f && (s && (r && c))) afsrc in
+    let src : (s && (r && c)) ≡ true = and-right f (s && (r && c)) fsrc in
+    let rc : (r && c) ≡ true = and-right s (r && c) src in (
+      ltb-true 0 n some,
+      record {
+        unarmed = not-true (arms-on (p .rx) p) (and-left a (f && (s && (r && c))) afsrc);
+        fresh = and-left f (s && (r && c)) fsrc;
+        sends = within-clear (tx-next (p .tx)) (p .half) (n + 1) n (ltb-true n _ (and-left s (r && c) src));
+        receives = within-clear (rx-next (p .rx)) (p .half) (n + 1) n (ltb-true n _ (and-left r c rc));
+        clocks = within-clear (p .«sync_next») (p .half) (n + 1) n (ltb-true n _ (and-right r c rc));
+      },
+    )
+
+-- the test, put together from what calls gave
+pub idle-of : (n : ℕ) (p : Port) (a f : Bool) (d e : Due) (s r c : ℕ) → a ≡ arms-on (p .rx) p → f ≡ clock-fresh p → d ≡ tx-next (p .tx) → s ≡ within d (p .half) (n + 1)
+    → e ≡ rx-next (p .rx) → r ≡ within e (p .half) (n + 1) → c ≡ within (p .«sync_next») (p .half) (n + 1)
+    → (ltb 0 n && (not a && (f && (ltb n s && (ltb n r && ltb n c))))) ≡ idle-for n p
+unfolding idle-for
+idle-of n p a f d e s r c ea ef ed es ee er ec =
+    let sends = within-of s d (tx-next (p .tx)) (p .half) (n + 1) (n + 1) es ed refl in
+    let receives = within-of r e (rx-next (p .rx)) (p .half) (n + 1) (n + 1) er ee refl in
+    λ i. ltb 0 n && (not (ea i) && (ef i && (ltb n (sends i) && (ltb n (receives i) && ltb n (ec i)))))
+
+pub idle-halves : (z p : Port) (n : ℕ) (f : Bool) → Ready (p .half) p → p .half + n ≤ limit → external p ≡ false → f ≡ idle-for n p → f ≡ true → z ≡ counted-by n p → z ≡ halves n p
+idle-halves z p zero f r l x ef t e = let i = idle-still zero p (sym ef ∙ t) in absurd (omega (arith, i .0))
+idle-halves z p (suc k) f r l x ef t e = e ∙ sym (all-still k p r l x (idle-still (suc k) p (sym ef ∙ t) .1))
 
 -- as many as the deadline says
 pub deadline-bounds : (p : Port) (left k : ℕ) → 1 ≤ left → k ≡ deadline left p → (1 ≤ k) × (k ≤ left)

@@ -5,7 +5,7 @@
 use mathlib.Core.Path.{_≡_}
 use Prim.Native.Nat.{ℕ, zero, suc, _+_, _%_}
 use mathlib.Core.Bool.{Bool, true, false, cond, not, _&&_}
-use lib.Dec.{eqb}
+use lib.Dec.{eqb, ltb}
 use Rattle.frame.specs.Frame.{differ}
 use Rattle.words.specs.declared.Receiver.{Receiver}
 use Rattle.words.specs.declared.Receiver.the-variants.{Idle, Busy}
@@ -40,6 +40,12 @@ deadline left p =
 -- k halves counted at once, k not 0
 unfoldable pub counted-by : ℕ → Port → Port
 counted-by k p = with-edge (with-high (with-half p (p .half + k)) (differ (p .high) (not (eqb (k % 2) 0)))) true
+
+-- n halves to come, n not 0, of which all only count
+unfoldable pub idle-for : ℕ → Port → Bool
+idle-for n p =
+    ltb 0 n && (not (arms-on (p .rx) p) && (clock-fresh p
+    && (ltb n (within (tx-next (p .tx)) (p .half) (n + 1)) && (ltb n (within (rx-next (p .rx)) (p .half) (n + 1)) && ltb n (within (p .«sync_next») (p .half) (n + 1))))))
 
 -- ---- an edge of the basic clock, counted: a half of the internal one, or with the flag `pin` an edge of the clock pin to a level
 -- the edge of clocked form's clock that comes with it, if one does: the pin's, or the port's own at its due half

@@ -13,8 +13,8 @@ ghost use Rattle.sci.specs.Receiver.{input-level, arms, arm-receive, com
 ghost use Rattle.words.specs.Sender.{level};
 ghost use Rattle.sci.specs.Sender.{character, preload, drive, begin, start-at, start-loaded, try-start-on, try-start, one-sent, finish-tail, tailed, next-cell, send-step-on, advance-tx};
 ghost use Rattle.sci.specs.Clocked.{sync-needed, refresh-sync-clock, take-bit, receive-bit-on, receive-bit, tail-ends, bit-out, shift-out, sync-edge};
-ghost use Rattle.sci.specs.Half.{process-basic, inside, uncounted};
-ghost use Rattle.sci.specs.Skip.{arms-on, edge-now, edge-level, toggled, edge-of, edge-work, clock-fresh, deadline, counted-by, Clocked, edges};
+ghost use Rattle.sci.specs.Half.{process-basic, halves, inside, uncounted};
+ghost use Rattle.sci.specs.Skip.{arms-on, edge-now, edge-level, toggled, edge-of, edge-work, clock-fresh, deadline, counted-by, Clocked, edges, idle-for};
 ghost use Rattle.sci.specs.Registers.{handles, peek, read, sender-off, sender-on, scr-tx, write-scr, write-tdr, status-write, stored, connect, load-tail, settled, write};
 ghost use Rattle.sci.specs.Power.{fresh, carried, reset-registers, reset, set-power};
 ghost use Rattle.sci.specs.Pins.{receive-input, external-edge, pins-change, transmit-level, clock-level, clock-drive, pins, interrupt, level-number};
@@ -1420,6 +1420,33 @@ impl Port {
         port
     }
 
+    // Whether nothing happens in the next n halves, n not 0.
+    fn idle_for(self, n: u32) -> bool
+        requires { ⌜ n ≤ limit ⌝ }
+        ensures { λ r. ⌜ r ≡ idle-for n self ⌝ }
+    {
+        let arms = self.arms_now();
+        let fresh = self.clock_fresh();
+        let tx = self.tx;
+        let sends = tx.next().within(self.half, n + 1);
+        let receiver = self.rx;
+        let receives = receiver.next().within(self.half, n + 1);
+        let next = self.sync_next;
+        let clocks = next.within(self.half, n + 1);
+        (n > 0) & (!arms & (fresh & ((sends > n) & ((receives > n) & (clocks > n)))))
+    }
+
+    // n halves of the internal clock.
+    fn halves(self, n: u32) -> Port
+        requires { ⌜ Ready (self .half) self × (self .half + n ≤ limit) × (external self ≡ false) ⌝ }
+        ensures { λ r. ⌜ r ≡ halves n self ⌝ }
+    {
+        if self.idle_for(n) {
+            return self.counted_by(n);
+        }
+        self.edges(n, false, false)
+    }
+
     // n halves' time on a port whose internal clock does not count.
     fn uncounted(self, n: u32) -> Port
         ensures { λ r. ⌜ r ≡ uncounted n self ⌝ }
@@ -1562,7 +1589,7 @@ impl Port {
             }
             if self.internal() {
                 if self.half + n <= LIMIT {
-                    return self.edges(n, false, false).done(0);
+                    return self.halves(n).done(0);
                 }
                 return self.refuse(Refusal::Count);
             }
