@@ -151,7 +151,7 @@ all-still (suc k) p r l x s =
     let c : half-step p ≡ counted p = half-once r (omega (arith, l)) x ∙ advance-still (suc k) p x s in
     ap (halves (suc k)) c ∙ all-still k (counted p) (keep-counted r (omega (arith, l))) (omega (arith, l)) x (still-counted (suc k) p s) ∙ then-counted (suc k) p
 
-idle-still : (n : ℕ) (p : Port) → idle-for n p ≡ true → (0 < n) × Still n p
+idle-still : (n : ℕ) (p : Port) → idle-for n p ≡ true → Still n p
 unfolding idle-for
 idle-still n p e =
     let a : Bool = not (arms-on (p .rx) p) in
@@ -159,34 +159,30 @@ idle-still n p e =
     let s : Bool = ltb n (within (tx-next (p .tx)) (p .half) (n + 1)) in
     let r : Bool = ltb n (within (rx-next (p .rx)) (p .half) (n + 1)) in
     let c : Bool = ltb n (within (p .«sync_next») (p .half) (n + 1)) in
-    let some : ltb 0 n ≡ true = and-left (ltb 0 n) (a && (f && (s && (r && c)))) e in
-    let afsrc : (a && (f && (s && (r && c)))) ≡ true = and-right (ltb 0 n) (a && (f && (s && (r && c)))) e in
-    let fsrc : (f && (s && (r && c))) ≡ true = and-right a (f && (s && (r && c))) afsrc in
+    let fsrc : (f && (s && (r && c))) ≡ true = and-right a (f && (s && (r && c))) e in
     let src : (s && (r && c)) ≡ true = and-right f (s && (r && c)) fsrc in
-    let rc : (r && c) ≡ true = and-right s (r && c) src in (
-      ltb-true 0 n some,
-      record {
-        unarmed = not-true (arms-on (p .rx) p) (and-left a (f && (s && (r && c))) afsrc);
-        fresh = and-left f (s && (r && c)) fsrc;
-        sends = within-clear (tx-next (p .tx)) (p .half) (n + 1) n (ltb-true n _ (and-left s (r && c) src));
-        receives = within-clear (rx-next (p .rx)) (p .half) (n + 1) n (ltb-true n _ (and-left r c rc));
-        clocks = within-clear (p .«sync_next») (p .half) (n + 1) n (ltb-true n _ (and-right r c rc));
-      },
-    )
+    let rc : (r && c) ≡ true = and-right s (r && c) src in
+    record {
+      unarmed = not-true (arms-on (p .rx) p) (and-left a (f && (s && (r && c))) e);
+      fresh = and-left f (s && (r && c)) fsrc;
+      sends = within-clear (tx-next (p .tx)) (p .half) (n + 1) n (ltb-true n _ (and-left s (r && c) src));
+      receives = within-clear (rx-next (p .rx)) (p .half) (n + 1) n (ltb-true n _ (and-left r c rc));
+      clocks = within-clear (p .«sync_next») (p .half) (n + 1) n (ltb-true n _ (and-right r c rc));
+    }
 
 -- the test, put together from what calls gave
 pub idle-of : (n : ℕ) (p : Port) (a f : Bool) (d e : Due) (s r c : ℕ) → a ≡ arms-on (p .rx) p → f ≡ clock-fresh p → d ≡ tx-next (p .tx) → s ≡ within d (p .half) (n + 1)
     → e ≡ rx-next (p .rx) → r ≡ within e (p .half) (n + 1) → c ≡ within (p .«sync_next») (p .half) (n + 1)
-    → (ltb 0 n && (not a && (f && (ltb n s && (ltb n r && ltb n c))))) ≡ idle-for n p
+    → (not a && (f && (ltb n s && (ltb n r && ltb n c)))) ≡ idle-for n p
 unfolding idle-for
 idle-of n p a f d e s r c ea ef ed es ee er ec =
     let sends = within-of s d (tx-next (p .tx)) (p .half) (n + 1) (n + 1) es ed refl in
     let receives = within-of r e (rx-next (p .rx)) (p .half) (n + 1) (n + 1) er ee refl in
-    λ i. ltb 0 n && (not (ea i) && (ef i && (ltb n (sends i) && (ltb n (receives i) && ltb n (ec i)))))
+    λ i. not (ea i) && (ef i && (ltb n (sends i) && (ltb n (receives i) && ltb n (ec i))))
 
-pub idle-halves : (z p : Port) (n : ℕ) (f : Bool) → Ready (p .half) p → p .half + n ≤ limit → external p ≡ false → f ≡ idle-for n p → f ≡ true → z ≡ counted-by n p → z ≡ halves n p
-idle-halves z p zero f r l x ef t e = let i = idle-still zero p (sym ef ∙ t) in absurd (omega (arith, i .0))
-idle-halves z p (suc k) f r l x ef t e = e ∙ sym (all-still k p r l x (idle-still (suc k) p (sym ef ∙ t) .1))
+pub idle-halves : (z p : Port) (n : ℕ) (f : Bool) → Ready (p .half) p → p .half + n ≤ limit → external p ≡ false → 448 < n → f ≡ idle-for n p → f ≡ true → z ≡ counted-by n p → z ≡ halves n p
+idle-halves z p zero f r l x some ef t e = absurd (omega (arith, some))
+idle-halves z p (suc k) f r l x some ef t e = e ∙ sym (all-still k p r l x (idle-still (suc k) p (sym ef ∙ t)))
 
 -- as many as the deadline says
 pub deadline-bounds : (p : Port) (left k : ℕ) → 1 ≤ left → k ≡ deadline left p → (1 ≤ k) × (k ≤ left)

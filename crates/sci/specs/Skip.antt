@@ -41,11 +41,11 @@ deadline left p =
 unfoldable pub counted-by : ℕ → Port → Port
 counted-by k p = with-edge (with-high (with-half p (p .half + k)) (differ (p .high) (not (eqb (k % 2) 0)))) true
 
--- n halves to come, n not 0, of which all only count
+-- n halves to come, of which all only count
 unfoldable pub idle-for : ℕ → Port → Bool
 idle-for n p =
-    ltb 0 n && (not (arms-on (p .rx) p) && (clock-fresh p
-    && (ltb n (within (tx-next (p .tx)) (p .half) (n + 1)) && (ltb n (within (rx-next (p .rx)) (p .half) (n + 1)) && ltb n (within (p .«sync_next») (p .half) (n + 1))))))
+    not (arms-on (p .rx) p) && (clock-fresh p
+    && (ltb n (within (tx-next (p .tx)) (p .half) (n + 1)) && (ltb n (within (rx-next (p .rx)) (p .half) (n + 1)) && ltb n (within (p .«sync_next») (p .half) (n + 1)))))
 
 -- ---- an edge of the basic clock, counted: a half of the internal one, or with the flag `pin` an edge of the clock pin to a level
 -- the edge of clocked form's clock that comes with it, if one does: the pin's, or the port's own at its due half

@@ -1420,7 +1420,7 @@ impl Port {
         port
     }
 
-    // Whether nothing happens in the next n halves, n not 0.
+    // Whether nothing happens in the next n halves.
     fn idle_for(self, n: u32) -> bool
         requires { ⌜ n ≤ limit ⌝ }
         ensures { λ r. ⌜ r ≡ idle-for n self ⌝ }
@@ -1433,16 +1433,18 @@ impl Port {
         let receives = receiver.next().within(self.half, n + 1);
         let next = self.sync_next;
         let clocks = next.within(self.half, n + 1);
-        (n > 0) & (!arms & (fresh & ((sends > n) & ((receives > n) & (clocks > n)))))
+        !arms & (fresh & ((sends > n) & ((receives > n) & (clocks > n))))
     }
 
-    // n halves of the internal clock.
+    // n halves of the internal clock. A due half is at most 448 ahead, so only a longer wait is likely to be idle.
     fn halves(self, n: u32) -> Port
         requires { ⌜ Ready (self .half) self × (self .half + n ≤ limit) × (external self ≡ false) ⌝ }
         ensures { λ r. ⌜ r ≡ halves n self ⌝ }
     {
-        if self.idle_for(n) {
-            return self.counted_by(n);
+        if n > 448 {
+            if self.idle_for(n) {
+                return self.counted_by(n);
+            }
         }
         self.edges(n, false, false)
     }

@@ -8,7 +8,7 @@ pub halves-spec : {M : Type 1} → statement M
 halves-spec =
     tie.close
     (tie.spec
-    (λ c κs. omega (arith, c .pre .1))
+    (λ c κs. omega (arith, c .before .pre .1))
     (λ c κs. search needs)
     (λ c. search (idle-halves, needs) depth 10)
     (λ c κs. search needs)
