@@ -463,9 +463,5 @@ reset-half r p module-on reset-on e h =
     (both-arms (λ (x : Port). x .half ≤ limit) (not module-on && p .«module») _ _ zero-le
     (both-arms (λ (x : Port). x .half ≤ limit) (reset-on && not (p .«reset_mode»)) _ _ zero-le h))
 
--- ---- rulesets for a `requires`; a longer list of laws exhausts the search
--- the calls of this crate that ask for a ready port, or a part of one
-pub ruleset ready = (ready-half, ready-tx, ready-rx, advance-tx-ready, advance-rx-ready, process-basic-ready, receive-bit-ready, clocked-edge-ready, sync-edge-ready, with-clock-ready, load-tail-ready, try-start-ready, stored-ready, connect-ready, receive-input-ready)
-
--- those that ask only for the half count
+-- ---- a ruleset for the calls that ask only for the half count
 pub ruleset halved = (with-power-half, reset-half)

@@ -1,5 +1,5 @@
 use Rattle.frame.proofs.Choose.{choose}
-use Rattle.sci.proofs.Keep.{ready}
+use Rattle.sci.proofs.Keep.{ready-half, ready-tx, ready-rx, receive-bit-ready}
 use Rattle.sci.proofs.Under.{tail-ends-of}
 use Rattle.sci.specs.Clocked.{sync-edge}
 use borrow.Author.Needs.{needs}
@@ -11,8 +11,8 @@ unfolding sync-edge
 sync-edge-spec =
     tie.close
     (tie.spec
-    (λ c κs. search (ready, needs) depth 10)
-    (λ c κs. search (ready, needs) depth 10)
+    (λ c κs. search (ready-rx, needs) depth 10)
+    (λ c κs. search (receive-bit-ready, ready-half, ready-tx, needs) depth 10)
     (λ c. search (tail-ends-of, choose) depth 10)
-    (λ c κs. search (ready, needs) depth 10)
+    (λ c κs. search (ready-tx, needs) depth 10)
     (λ c. search (choose) depth 10))

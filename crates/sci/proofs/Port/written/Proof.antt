@@ -1,5 +1,5 @@
 use Rattle.frame.proofs.Choose.{choose}
-use Rattle.sci.proofs.Keep.{ready}
+use Rattle.sci.proofs.Keep.{stored-ready, connect-ready}
 use Rattle.sci.proofs.Under.{connect-of, settled-of}
 use Rattle.sci.specs.Registers.{write}
 use borrow.Author.Needs.{needs}
@@ -14,6 +14,6 @@ written-spec =
     (λ c κs. search needs)
     (λ c κs. search needs)
     (λ c κs. search needs)
-    (λ c κs. search (ready, needs) depth 10)
+    (λ c κs. search (stored-ready, connect-ready, needs) depth 10)
     (λ c. search (settled-of, connect-of, choose) depth 10)
     (λ c. search (choose) depth 10))
