@@ -19,53 +19,11 @@ use Rattle.words.specs.declared.Receiver.the-variants.{Idle, Busy}
 use Rattle.words.specs.declared.Sampled.{Sampled}
 use Rattle.words.specs.declared.Sampled.the-variants.{Dropped, Onward, Whole}
 use Rattle.sci.specs.declared.Port.{Port}
-use Rattle.sci.specs.declared.Transmit.{Transmit}
-use Rattle.sci.specs.declared.Transmit.the-variants.{Released, Level}
-use Rattle.sci.specs.declared.Refusal.{Refusal}
-use Rattle.sci.specs.declared.Refusal.the-variants.{Address, Operand, Infrared, Count, Short, Number, Kind, State, Full}
-use Rattle.sci.specs.declared.Outcome.{Outcome}
-use Rattle.sci.specs.declared.Outcome.the-variants.{Done, Refused}
-use Rattle.sci.specs.Calls.{Answer, number, answer-of}
 use Rattle.sci.specs.Clocked.{receive-bit-on, finish-clocked, tail-ends-on, shift-clocked, shift-out-on}
-use Rattle.sci.specs.Facts.{mark-end}
-use Rattle.sci.specs.Pins.{level-number}
-use Rattle.sci.specs.Receiver.{arm-receive-on, after-sample, advance-rx-on}
+use Rattle.sci.specs.Receiver.{after-sample, advance-rx-on}
 use Rattle.sci.specs.Registers.{fill-tail, load-tail-on}
-use Rattle.sci.specs.Sender.{loaded-on, preloaded-on, start-loaded, try-start-on, finish-tail, send-step-on, advance-tx-on}
+use Rattle.sci.specs.Sender.{loaded-on, preloaded-on, start-loaded, try-start-on, finish-tail, send-step-on}
 use Rattle.sci.specs.Skip.{arms-on}
-
-pub number-address : (x : Refusal) (z : ℕ) → x ≡ Address → z ≡ number Address → z ≡ number x
-number-address x z h e = e ∙ sym (ap (λ (t : Refusal). number t) h)
-
-pub number-operand : (x : Refusal) (z : ℕ) → x ≡ Operand → z ≡ number Operand → z ≡ number x
-number-operand x z h e = e ∙ sym (ap (λ (t : Refusal). number t) h)
-
-pub number-infrared : (x : Refusal) (z : ℕ) → x ≡ Infrared → z ≡ number Infrared → z ≡ number x
-number-infrared x z h e = e ∙ sym (ap (λ (t : Refusal). number t) h)
-
-pub number-count : (x : Refusal) (z : ℕ) → x ≡ Count → z ≡ number Count → z ≡ number x
-number-count x z h e = e ∙ sym (ap (λ (t : Refusal). number t) h)
-
-pub number-short : (x : Refusal) (z : ℕ) → x ≡ Short → z ≡ number Short → z ≡ number x
-number-short x z h e = e ∙ sym (ap (λ (t : Refusal). number t) h)
-
-pub number-number : (x : Refusal) (z : ℕ) → x ≡ Number → z ≡ number Number → z ≡ number x
-number-number x z h e = e ∙ sym (ap (λ (t : Refusal). number t) h)
-
-pub number-kind : (x : Refusal) (z : ℕ) → x ≡ Kind → z ≡ number Kind → z ≡ number x
-number-kind x z h e = e ∙ sym (ap (λ (t : Refusal). number t) h)
-
-pub number-state : (x : Refusal) (z : ℕ) → x ≡ State → z ≡ number State → z ≡ number x
-number-state x z h e = e ∙ sym (ap (λ (t : Refusal). number t) h)
-
-pub number-full : (x : Refusal) (z : ℕ) → x ≡ Full → z ≡ number Full → z ≡ number x
-number-full x z h e = e ∙ sym (ap (λ (t : Refusal). number t) h)
-
-pub answer-of-done : (x : Outcome) (c0 : ℕ) (y0 : Port) (z : Answer) → x ≡ Done c0 → z ≡ answer-of (Done c0) y0 → z ≡ answer-of x y0
-answer-of-done x c0 y0 z h e = e ∙ sym (ap (λ (t : Outcome). answer-of t y0) h)
-
-pub answer-of-refused : (x : Outcome) (c0 : Refusal) (c1 : ℕ) (y0 : Port) (z : Answer) → x ≡ Refused c0 c1 → z ≡ answer-of (Refused c0 c1) y0 → z ≡ answer-of x y0
-answer-of-refused x c0 c1 y0 z h e = e ∙ sym (ap (λ (t : Outcome). answer-of t y0) h)
 
 pub receive-bit-on-idle : (x : Receiver) (y0 : Port) (z : Port) → x ≡ Idle → z ≡ receive-bit-on Idle y0 → z ≡ receive-bit-on x y0
 receive-bit-on-idle x y0 z h e = e ∙ sym (ap (λ (t : Receiver). receive-bit-on t y0) h)
@@ -120,36 +78,6 @@ shift-out-on-data x c0 c1 c2 y0 z h e = e ∙ sym (ap (λ (t : Tx). shift-out-on
 
 pub shift-out-on-tail : (x : Tx) (c0 : Loaded) (c1 : Due) (y0 : Port) (z : Port) → x ≡ Tail c0 c1 → z ≡ shift-out-on (Tail c0 c1) y0 → z ≡ shift-out-on x y0
 shift-out-on-tail x c0 c1 y0 z h e = e ∙ sym (ap (λ (t : Tx). shift-out-on t y0) h)
-
-pub mark-end-off : (x : Tx) (z : ℕ) → x ≡ Off → z ≡ mark-end Off → z ≡ mark-end x
-mark-end-off x z h e = e ∙ sym (ap (λ (t : Tx). mark-end t) h)
-
-pub mark-end-blocked : (x : Tx) (c0 : Character) (z : ℕ) → x ≡ Blocked c0 → z ≡ mark-end (Blocked c0) → z ≡ mark-end x
-mark-end-blocked x c0 z h e = e ∙ sym (ap (λ (t : Tx). mark-end t) h)
-
-pub mark-end-mark : (x : Tx) (c0 : ℕ) (z : ℕ) → x ≡ Mark c0 → z ≡ mark-end (Mark c0) → z ≡ mark-end x
-mark-end-mark x c0 z h e = e ∙ sym (ap (λ (t : Tx). mark-end t) h)
-
-pub mark-end-start : (x : Tx) (c0 : Character) (c1 : ℕ) (z : ℕ) → x ≡ Start c0 c1 → z ≡ mark-end (Start c0 c1) → z ≡ mark-end x
-mark-end-start x c0 c1 z h e = e ∙ sym (ap (λ (t : Tx). mark-end t) h)
-
-pub mark-end-data : (x : Tx) (c0 : Character) (c1 : ℕ) (c2 : Due) (z : ℕ) → x ≡ Data c0 c1 c2 → z ≡ mark-end (Data c0 c1 c2) → z ≡ mark-end x
-mark-end-data x c0 c1 c2 z h e = e ∙ sym (ap (λ (t : Tx). mark-end t) h)
-
-pub mark-end-tail : (x : Tx) (c0 : Loaded) (c1 : Due) (z : ℕ) → x ≡ Tail c0 c1 → z ≡ mark-end (Tail c0 c1) → z ≡ mark-end x
-mark-end-tail x c0 c1 z h e = e ∙ sym (ap (λ (t : Tx). mark-end t) h)
-
-pub level-number-released : (x : Transmit) (z : ℕ) → x ≡ Released → z ≡ level-number Released → z ≡ level-number x
-level-number-released x z h e = e ∙ sym (ap (λ (t : Transmit). level-number t) h)
-
-pub level-number-level : (x : Transmit) (c0 : Bool) (z : ℕ) → x ≡ Level c0 → z ≡ level-number (Level c0) → z ≡ level-number x
-level-number-level x c0 z h e = e ∙ sym (ap (λ (t : Transmit). level-number t) h)
-
-pub arm-receive-on-idle : (x : Receiver) (y0 : Port) (z : Port) → x ≡ Idle → z ≡ arm-receive-on Idle y0 → z ≡ arm-receive-on x y0
-arm-receive-on-idle x y0 z h e = e ∙ sym (ap (λ (t : Receiver). arm-receive-on t y0) h)
-
-pub arm-receive-on-busy : (x : Receiver) (c0 : Rx) (y0 : Port) (z : Port) → x ≡ Busy c0 → z ≡ arm-receive-on (Busy c0) y0 → z ≡ arm-receive-on x y0
-arm-receive-on-busy x c0 y0 z h e = e ∙ sym (ap (λ (t : Receiver). arm-receive-on t y0) h)
 
 pub after-sample-dropped : (x : Sampled) (y0 : Port) (z : Port) → x ≡ Dropped → z ≡ after-sample Dropped y0 → z ≡ after-sample x y0
 after-sample-dropped x y0 z h e = e ∙ sym (ap (λ (t : Sampled). after-sample t y0) h)
@@ -250,33 +178,11 @@ send-step-on-data x c0 c1 c2 y0 z h e = e ∙ sym (ap (λ (t : Tx). send-step-on
 pub send-step-on-tail : (x : Tx) (c0 : Loaded) (c1 : Due) (y0 : Port) (z : Port) → x ≡ Tail c0 c1 → z ≡ send-step-on (Tail c0 c1) y0 → z ≡ send-step-on x y0
 send-step-on-tail x c0 c1 y0 z h e = e ∙ sym (ap (λ (t : Tx). send-step-on t y0) h)
 
-pub advance-tx-on-off : (x : Tx) (y0 : Port) (z : Port) → x ≡ Off → z ≡ advance-tx-on Off y0 → z ≡ advance-tx-on x y0
-advance-tx-on-off x y0 z h e = e ∙ sym (ap (λ (t : Tx). advance-tx-on t y0) h)
-
-pub advance-tx-on-blocked : (x : Tx) (c0 : Character) (y0 : Port) (z : Port) → x ≡ Blocked c0 → z ≡ advance-tx-on (Blocked c0) y0 → z ≡ advance-tx-on x y0
-advance-tx-on-blocked x c0 y0 z h e = e ∙ sym (ap (λ (t : Tx). advance-tx-on t y0) h)
-
-pub advance-tx-on-mark : (x : Tx) (c0 : ℕ) (y0 : Port) (z : Port) → x ≡ Mark c0 → z ≡ advance-tx-on (Mark c0) y0 → z ≡ advance-tx-on x y0
-advance-tx-on-mark x c0 y0 z h e = e ∙ sym (ap (λ (t : Tx). advance-tx-on t y0) h)
-
-pub advance-tx-on-start : (x : Tx) (c0 : Character) (c1 : ℕ) (y0 : Port) (z : Port) → x ≡ Start c0 c1 → z ≡ advance-tx-on (Start c0 c1) y0 → z ≡ advance-tx-on x y0
-advance-tx-on-start x c0 c1 y0 z h e = e ∙ sym (ap (λ (t : Tx). advance-tx-on t y0) h)
-
-pub advance-tx-on-data : (x : Tx) (c0 : Character) (c1 : ℕ) (c2 : Due) (y0 : Port) (z : Port) → x ≡ Data c0 c1 c2 → z ≡ advance-tx-on (Data c0 c1 c2) y0 → z ≡ advance-tx-on x y0
-advance-tx-on-data x c0 c1 c2 y0 z h e = e ∙ sym (ap (λ (t : Tx). advance-tx-on t y0) h)
-
-pub advance-tx-on-tail : (x : Tx) (c0 : Loaded) (c1 : Due) (y0 : Port) (z : Port) → x ≡ Tail c0 c1 → z ≡ advance-tx-on (Tail c0 c1) y0 → z ≡ advance-tx-on x y0
-advance-tx-on-tail x c0 c1 y0 z h e = e ∙ sym (ap (λ (t : Tx). advance-tx-on t y0) h)
-
 pub arms-on-idle : (x : Receiver) (y0 : Port) (z : Bool) → x ≡ Idle → z ≡ arms-on Idle y0 → z ≡ arms-on x y0
 arms-on-idle x y0 z h e = e ∙ sym (ap (λ (t : Receiver). arms-on t y0) h)
 
 pub arms-on-busy : (x : Receiver) (c0 : Rx) (y0 : Port) (z : Bool) → x ≡ Busy c0 → z ≡ arms-on (Busy c0) y0 → z ≡ arms-on x y0
 arms-on-busy x c0 y0 z h e = e ∙ sym (ap (λ (t : Receiver). arms-on t y0) h)
-
-pub ruleset number-clauses = (number-address, number-operand, number-infrared, number-count, number-short, number-number, number-kind, number-state, number-full)
-
-pub ruleset answer-of-clauses = (answer-of-done, answer-of-refused)
 
 pub ruleset receive-bit-on-clauses = (receive-bit-on-idle, receive-bit-on-busy)
 
@@ -287,12 +193,6 @@ pub ruleset tail-ends-on-clauses = (tail-ends-on-off, tail-ends-on-blocked, tail
 pub ruleset shift-clocked-clauses = (shift-clocked-never, shift-clocked-at)
 
 pub ruleset shift-out-on-clauses = (shift-out-on-off, shift-out-on-blocked, shift-out-on-mark, shift-out-on-start, shift-out-on-data, shift-out-on-tail)
-
-pub ruleset mark-end-clauses = (mark-end-off, mark-end-blocked, mark-end-mark, mark-end-start, mark-end-data, mark-end-tail)
-
-pub ruleset level-number-clauses = (level-number-released, level-number-level)
-
-pub ruleset arm-receive-on-clauses = (arm-receive-on-idle, arm-receive-on-busy)
 
 pub ruleset after-sample-clauses = (after-sample-dropped, after-sample-onward, after-sample-whole)
 
@@ -313,7 +213,5 @@ pub ruleset try-start-on-clauses = (try-start-on-off, try-start-on-blocked, try-
 pub ruleset finish-tail-clauses = (finish-tail-nothing, finish-tail-next)
 
 pub ruleset send-step-on-clauses = (send-step-on-off, send-step-on-blocked, send-step-on-mark, send-step-on-start, send-step-on-data, send-step-on-tail)
-
-pub ruleset advance-tx-on-clauses = (advance-tx-on-off, advance-tx-on-blocked, advance-tx-on-mark, advance-tx-on-start, advance-tx-on-data, advance-tx-on-tail)
 
 pub ruleset arms-on-clauses = (arms-on-idle, arms-on-busy)

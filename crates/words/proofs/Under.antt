@@ -8,22 +8,13 @@ use lib.IntN.{ℤ}
 use Rattle.frame.specs.declared.Format.{Format}
 use Rattle.words.specs.declared.Rx.{Rx}
 use Rattle.words.specs.declared.Sampled.{Sampled}
-use Rattle.words.specs.Receiver.{armed, started, stepped, stopped, sample-at, sample, clocked-word, bit-taken}
+use Rattle.words.specs.Receiver.{armed, stepped, sample, clocked-word, bit-taken}
 
 pub armed-of : (z : Rx) (x0 y0 : Format) (x1 y1 : ℕ) → z ≡ armed x0 x1 → x0 ≡ y0 → x1 ≡ y1 → z ≡ armed y0 y1
 armed-of z x0 y0 x1 y1 e h0 h1 = e ∙ (λ j. armed (h0 j) (h1 j))
 
-pub started-of : (z : Rx) (x0 y0 : Format) (x1 y1 : ℕ) (x2 y2 : Rx) → z ≡ started x0 x1 x2 → x0 ≡ y0 → x1 ≡ y1 → x2 ≡ y2 → z ≡ started y0 y1 y2
-started-of z x0 y0 x1 y1 x2 y2 e h0 h1 h2 = e ∙ (λ j. started (h0 j) (h1 j) (h2 j))
-
 pub stepped-of : (z : Rx) (x0 y0 : ℕ) (x1 y1 : ℤ) (x2 y2 : ℕ) (x3 y3 : Bool) (x4 y4 : ℕ) (x5 y5 : Rx) → z ≡ stepped x0 x1 x2 x3 x4 x5 → x0 ≡ y0 → x1 ≡ y1 → x2 ≡ y2 → x3 ≡ y3 → x4 ≡ y4 → x5 ≡ y5 → z ≡ stepped y0 y1 y2 y3 y4 y5
 stepped-of z x0 y0 x1 y1 x2 y2 x3 y3 x4 y4 x5 y5 e h0 h1 h2 h3 h4 h5 = e ∙ (λ j. stepped (h0 j) (h1 j) (h2 j) (h3 j) (h4 j) (h5 j))
-
-pub stopped-of : (z : Rx) (x0 y0 : Bool) (x1 y1 : Rx) → z ≡ stopped x0 x1 → x0 ≡ y0 → x1 ≡ y1 → z ≡ stopped y0 y1
-stopped-of z x0 y0 x1 y1 e h0 h1 = e ∙ (λ j. stopped (h0 j) (h1 j))
-
-pub sample-at-of : (z : Sampled) (x0 y0 : ℤ) (x1 y1 : Format) (x2 y2 : Bool) (x3 y3 : ℕ) (x4 y4 : Rx) → z ≡ sample-at x0 x1 x2 x3 x4 → x0 ≡ y0 → x1 ≡ y1 → x2 ≡ y2 → x3 ≡ y3 → x4 ≡ y4 → z ≡ sample-at y0 y1 y2 y3 y4
-sample-at-of z x0 y0 x1 y1 x2 y2 x3 y3 x4 y4 e h0 h1 h2 h3 h4 = e ∙ (λ j. sample-at (h0 j) (h1 j) (h2 j) (h3 j) (h4 j))
 
 pub sample-of : (z : Sampled) (x0 y0 : Format) (x1 y1 : Bool) (x2 y2 : ℕ) (x3 y3 : Rx) → z ≡ sample x0 x1 x2 x3 → x0 ≡ y0 → x1 ≡ y1 → x2 ≡ y2 → x3 ≡ y3 → z ≡ sample y0 y1 y2 y3
 sample-of z x0 y0 x1 y1 x2 y2 x3 y3 e h0 h1 h2 h3 = e ∙ (λ j. sample (h0 j) (h1 j) (h2 j) (h3 j))

@@ -1,5 +1,5 @@
 use Rattle.frame.proofs.Choose.{choose}
-use Rattle.sci.proofs.Under.{drive-of, with-tx-of}
+use Rattle.sci.proofs.Under.{with-tx-of}
 use Rattle.sci.specs.Sender.{begin}
 use borrow.Author.Needs.{needs}
 use Rattle.sci.proofs.Port.begin.Statement.{statement}
@@ -15,4 +15,4 @@ begin-spec =
     (λ c. search needs)
     (λ c κs. search needs)
     (λ c κs. search needs)
-    (λ c. search (with-tx-of, drive-of, choose) depth 10))
+    (λ c. search (with-tx-of, choose) depth 10))

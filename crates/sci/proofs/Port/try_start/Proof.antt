@@ -14,7 +14,7 @@ try-start-spec =
     (λ c. search needs)
     (λ c κs. search needs)
     (λ c. search needs)
-    (λ c. search (try-start-on-clauses, unflagged, choose) depth 10)
+    (λ c. search (try-start-on-clauses, choose) depth 10)
     (λ c κs. search (held, needs) depth 10)
     (λ c. search (try-start-on-clauses, choose) depth 10)
     (λ c. search (try-start-on-clauses, unflagged, choose) depth 10)
