@@ -1,5 +1,5 @@
 -- A half of the internal clock does its basic work once: what `sync` does on the way to `advance` is what `advance` does anyway.
--- With the external clock that is not so; no half passes there.
+-- Nothing is claimed of the external clock; no half passes there.
 -- Assumes nothing.
 use mathlib.Core.Path.{_≡_, refl, sym, ap, ap₂, _∙_}
 use mathlib.Core.Bool.{Bool, true, false, not, cond, _&&_, _||_, true≢false, false≢true}
@@ -38,10 +38,11 @@ use Rattle.sci.specs.Sender.{character, loaded-on, preloaded-on, loaded,
 use Rattle.sci.specs.Clocked.{sync-needed, with-clock, refresh-sync-clock, receive-bit-on, receive-bit, tail-ends-on, tail-ends, shift-out-on, shift-out, sync-edge}
 use Rattle.sci.specs.Half.{process-basic, sync, clocked-edge, advance, half-step}
 use Rattle.sci.specs.Skip.{arms-on, clock-fresh}
-use Rattle.sci.specs.Valid.{limit}
+use Rattle.sci.specs.Valid.{limit, valid}
 use Rattle.sci.specs.Ready.{Ready}
 use Rattle.sci.proofs.Steps.{product≤}
 use Rattle.sci.proofs.Keep.{bounded-now, keep-counted, keep-advance-tx, keep-advance-rx, keep-process-basic}
+use Rattle.sci.proofs.Checked.{valid-ready}
 use Rattle.sci.proofs.SenderKeeps.{free-sender}
 use Rattle.sci.proofs.ReceiverKeeps.{free-receiver, refresh-any, arm-keeps, advance-rx-keeps, basic-keeps}
 
@@ -354,3 +355,7 @@ module _ {n : ℕ} {p : Port} (r : Ready n p) (x : external p ≡ false) where
 pub half-once : {n : ℕ} {p : Port} → Ready n p → n < limit → external p ≡ false → half-step p ≡ advance (counted p)
 unfolding half-step
 half-once r h x = one-pass (keep-counted r h) x
+
+-- of every port that passes the field test
+pub valid-once : (p : Port) → valid p ≡ true → p .half < limit → external p ≡ false → half-step p ≡ advance (counted p)
+valid-once p v h x = half-once (valid-ready p v) h x
