@@ -1,4 +1,4 @@
--- A port as a list of numbers, one for each field in the order of the struct Port, and back.
+-- A port as a list of numbers, one for each field in the order of the fields of `Sci`, and back.
 --   0 to 9    SPCR, SMR, BRR, SCR, TDR, SSR, RDR, SEMR, IRCR, and the status bits seen
 --   10 to 13  module, main clock, subclock, reset mode
 --   14 to 16  half count, clock phase, edge

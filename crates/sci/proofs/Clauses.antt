@@ -23,7 +23,7 @@ use Rattle.sci.specs.Clocked.{receive-bit-on, finish-clocked, tail-ends-
 use Rattle.sci.specs.Receiver.{after-sample, advance-rx-on}
 use Rattle.sci.specs.Registers.{fill-tail, load-tail-on}
 use Rattle.sci.specs.Sender.{loaded-on, preloaded-on, start-loaded, try-start-on, finish-tail, send-step-on}
-use Rattle.sci.specs.Skip.{arms-on}
+use Rattle.sci.specs.Skip.{arms-on, starts-on}
 
 pub receive-bit-on-idle : (x : Receiver) (y0 : Port) (z : Port) → x ≡ Idle → z ≡ receive-bit-on Idle y0 → z ≡ receive-bit-on x y0
 receive-bit-on-idle x y0 z h e = e ∙ sym (ap (λ (t : Receiver). receive-bit-on t y0) h)
@@ -184,6 +184,24 @@ arms-on-idle x y0 z h e = e ∙ sym (ap (λ (t : Receiver). arms-on t y0) h)
 pub arms-on-busy : (x : Receiver) (c0 : Rx) (y0 : Port) (z : Bool) → x ≡ Busy c0 → z ≡ arms-on (Busy c0) y0 → z ≡ arms-on x y0
 arms-on-busy x c0 y0 z h e = e ∙ sym (ap (λ (t : Receiver). arms-on t y0) h)
 
+pub starts-on-off : (x : Tx) (y0 : Port) (z : Bool) → x ≡ Off → z ≡ starts-on Off y0 → z ≡ starts-on x y0
+starts-on-off x y0 z h e = e ∙ sym (ap (λ (t : Tx). starts-on t y0) h)
+
+pub starts-on-blocked : (x : Tx) (c0 : Character) (y0 : Port) (z : Bool) → x ≡ Blocked c0 → z ≡ starts-on (Blocked c0) y0 → z ≡ starts-on x y0
+starts-on-blocked x c0 y0 z h e = e ∙ sym (ap (λ (t : Tx). starts-on t y0) h)
+
+pub starts-on-mark : (x : Tx) (c0 : ℕ) (y0 : Port) (z : Bool) → x ≡ Mark c0 → z ≡ starts-on (Mark c0) y0 → z ≡ starts-on x y0
+starts-on-mark x c0 y0 z h e = e ∙ sym (ap (λ (t : Tx). starts-on t y0) h)
+
+pub starts-on-start : (x : Tx) (c0 : Character) (c1 : ℕ) (y0 : Port) (z : Bool) → x ≡ Start c0 c1 → z ≡ starts-on (Start c0 c1) y0 → z ≡ starts-on x y0
+starts-on-start x c0 c1 y0 z h e = e ∙ sym (ap (λ (t : Tx). starts-on t y0) h)
+
+pub starts-on-data : (x : Tx) (c0 : Character) (c1 : ℕ) (c2 : Due) (y0 : Port) (z : Bool) → x ≡ Data c0 c1 c2 → z ≡ starts-on (Data c0 c1 c2) y0 → z ≡ starts-on x y0
+starts-on-data x c0 c1 c2 y0 z h e = e ∙ sym (ap (λ (t : Tx). starts-on t y0) h)
+
+pub starts-on-tail : (x : Tx) (c0 : Loaded) (c1 : Due) (y0 : Port) (z : Bool) → x ≡ Tail c0 c1 → z ≡ starts-on (Tail c0 c1) y0 → z ≡ starts-on x y0
+starts-on-tail x c0 c1 y0 z h e = e ∙ sym (ap (λ (t : Tx). starts-on t y0) h)
+
 pub ruleset receive-bit-on-clauses = (receive-bit-on-idle, receive-bit-on-busy)
 
 pub ruleset finish-clocked-clauses = (finish-clocked-never, finish-clocked-at)
@@ -215,3 +233,5 @@ pub ruleset finish-tail-clauses = (finish-tail-nothing, finish-tail-next)
 pub ruleset send-step-on-clauses = (send-step-on-off, send-step-on-blocked, send-step-on-mark, send-step-on-start, send-step-on-data, send-step-on-tail)
 
 pub ruleset arms-on-clauses = (arms-on-idle, arms-on-busy)
+
+pub ruleset starts-on-clauses = (starts-on-off, starts-on-blocked, starts-on-mark, starts-on-start, starts-on-data, starts-on-tail)

@@ -1,7 +1,7 @@
 -- What the proofs of the port's steps hand to `search`, beside the generated clauses and congruences.
 -- Assumes nothing.
 use mathlib.Core.Path.{_≡_, refl, sym, ap, ap₂, _∙_, subst, subst⁻¹}
-use mathlib.Core.Bool.{Bool, true, false, not, cond, _&&_, false≢true}
+use mathlib.Core.Bool.{Bool, true, false, not, cond, _&&_, _||_, false≢true}
 use Prim.Native.Nat.{ℕ, zero, suc, _+_, _-_, _*_, _/_, _%_, _^_, _≤_, zero-le}
 use native.Mathlib.Nat.{mod-le, le-trans, mul-le-mul-left, mul-le-mul-right}
 use native.Mathlib.Numerals.{add-one}
@@ -19,7 +19,9 @@ use Rattle.frame.specs.declared.Format.{Format}
 use Rattle.frame.specs.Frame.{has, one-if, cells, format, word, format-valid}
 use Rattle.frame.proofs.Choose.{choose, cond-t, cond-f, key-f}
 use Rattle.frame.proofs.Laws.{one-shl}
+use Rattle.frame.proofs.Branches.{and-no}
 use Rattle.frame.proofs.Words.{shape, format-good}
+use Rattle.words.specs.Sender.{holds}
 use Rattle.words.proofs.Steps.{dues}
 use Rattle.words.proofs.Tx.{the-type}
 use Rattle.sci.specs.declared.Port.{Port}
@@ -38,14 +40,14 @@ use Rattle.words.specs.declared.Receiver.the-variants.{Idle, Busy}
 use Rattle.words.specs.declared.Sampled.the-variants.{Onward, Whole}
 use Rattle.words.specs.declared.Tx.{Tx}
 use Rattle.words.specs.declared.Tx.the-variants.{Off, Blocked, Mark, Start, Data, Tail}
-use Rattle.sci.specs.Receiver.{arms, arm-receive-on, arm-receive, advance-rx}
-use Rattle.sci.specs.Skip.{arms-on}
+use Rattle.sci.specs.Receiver.{arms, error-free, arm-receive-on, arm-receive, advance-rx}
+use Rattle.sci.specs.Skip.{arms-on, starts-on}
 use Rattle.sci.specs.Fields.{with-tx, with-rx}
 use Rattle.sci.specs.Baud.{format-of, next-fall, boundary}
 use Rattle.words.specs.Receiver.{armed, clocked-word}
 use Rattle.sci.specs.Clocked.{tail-ends-on, shift-out-on, refresh-sync-clock, sync-edge}
-use Rattle.sci.specs.Registers.{load-tail-on, sender-on}
-use Rattle.sci.specs.Sender.{try-start-on, loaded, preloaded, preload, start-loaded, tailed, one-sent, advance-tx}
+use Rattle.sci.specs.Registers.{load-tail-on, load-tail, settled, sender-on}
+use Rattle.sci.specs.Sender.{try-start-on, try-start, loaded, preloaded, preload, start-loaded, tailed, one-sent, advance-tx}
 use Rattle.sci.specs.Pins.{high-or-low}
 use Rattle.sci.specs.Power.{reset, with-power}
 use Rattle.sci.specs.Half.{process-basic, inside, uncounted}
@@ -127,13 +129,27 @@ pub basic-f : (z q w p : Port) (f : Bool) → w ≡ advance-tx p → q ≡ advan
 unfolding process-basic arm-receive
 basic-f z q w p f ew eq ef t e = arm-f (q .rx) q z (sym ef ∙ t) e ∙ ap arm-receive (eq ∙ ap advance-rx ew)
 
-pub armed-clock-t : (z q p : Port) (f : Bool) → f ≡ arms-on (p .rx) p → f ≡ true → q ≡ with-word p → z ≡ refresh-sync-clock q → z ≡ refresh-sync-clock (arm-receive p)
-unfolding arm-receive
-armed-clock-t z q p f ef t eq e = e ∙ ap refresh-sync-clock (arm-t (p .rx) p q (sym ef ∙ t) eq)
+pub settled-t : (z q r w p : Port) (f : Bool) → w ≡ load-tail p → r ≡ try-start w → f ≡ arms-on (r .rx) r → f ≡ true → q ≡ with-word r → z ≡ refresh-sync-clock q → z ≡ settled p
+unfolding settled arm-receive
+settled-t z q r w p f ew er ef t eq e =
+    e ∙ ap refresh-sync-clock (arm-t (r .rx) r q (sym ef ∙ t) eq ∙ ap arm-receive (er ∙ ap try-start ew))
 
-pub armed-clock-f : (z p : Port) (f : Bool) → f ≡ arms-on (p .rx) p → f ≡ false → z ≡ refresh-sync-clock p → z ≡ refresh-sync-clock (arm-receive p)
-unfolding arm-receive
-armed-clock-f z p f ef t e = e ∙ ap refresh-sync-clock (arm-f (p .rx) p p (sym ef ∙ t) refl)
+pub settled-f : (z r w p : Port) (f : Bool) → w ≡ load-tail p → r ≡ try-start w → f ≡ arms-on (r .rx) r → f ≡ false → z ≡ refresh-sync-clock r → z ≡ settled p
+unfolding settled arm-receive
+settled-f z r w p f ew er ef t e =
+    e ∙ ap refresh-sync-clock (arm-f (r .rx) r r (sym ef ∙ t) refl ∙ ap arm-receive (er ∙ ap try-start ew))
+
+-- no word begins
+pub start-f : (t : Tx) (p z : Port) (f : Bool) → f ≡ starts-on t p → f ≡ false → z ≡ p → z ≡ try-start-on t p
+start-f Off p z f ef h e = cond-f (has (p .scr) 0x20 && (holds (p .holding) && (not (format-of p .synchronous) || error-free p))) _ p z (none (sym ef ∙ h)) e
+  where
+    none : holds (p .holding) ≡ false → (has (p .scr) 0x20 && (holds (p .holding) && (not (format-of p .synchronous) || error-free p))) ≡ false
+    none empty = ap (λ (b : Bool). has (p .scr) 0x20 && (b && (not (format-of p .synchronous) || error-free p))) empty ∙ and-no (has (p .scr) 0x20)
+start-f (Blocked k) p z f ef h e = absurd (false≢true (sym h ∙ ef))
+start-f (Mark n) p z f ef h e = e
+start-f (Start k n) p z f ef h e = e
+start-f (Data k c n) p z f ef h e = e
+start-f (Tail l n) p z f ef h e = e
 
 -- ---- what the state is known to hold in an arm
 pub off-sendable : (t : Tx) → t ≡ Off → Sendable t
@@ -326,7 +342,3 @@ pub power-of : (z r p : Port) (module-on main-on sub-on reset-on : Bool) → z �
     → z ≡ refresh-sync-clock (with-power (reset module-on reset-on p) module-on main-on sub-on reset-on)
 power-of z r p module-on main-on sub-on reset-on e h =
     e ∙ ap (λ (q : Port). refresh-sync-clock (with-power q module-on main-on sub-on reset-on)) h
-
--- the end of a chain
-pub armed-clock-of : (z p q : Port) → z ≡ refresh-sync-clock (arm-receive p) → p ≡ q → z ≡ refresh-sync-clock (arm-receive q)
-armed-clock-of z p q e h = e ∙ ap (λ (x : Port). refresh-sync-clock (arm-receive x)) h

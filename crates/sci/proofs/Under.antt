@@ -13,7 +13,7 @@ use Rattle.words.specs.declared.Receiver.{Receiver}
 use Rattle.words.specs.declared.Sampled.{Sampled}
 use Rattle.sci.specs.declared.Port.{Port}
 use Rattle.sci.specs.Clocked.{take-bit, tail-ends}
-use Rattle.sci.specs.Fields.{with-holding, with-tx, with-rx, with-sync-next}
+use Rattle.sci.specs.Fields.{with-sync-next, with-tx, with-rx, with-holding}
 use Rattle.sci.specs.Power.{carried}
 use Rattle.sci.specs.Receiver.{complete-receive, after-sample}
 use Rattle.sci.specs.Registers.{connect, settled}
@@ -25,8 +25,8 @@ take-bit-of z x0 y0 x1 y1 e h0 h1 = e ∙ (λ j. take-bit (h0 j) (h1 j))
 pub tail-ends-of : (z : Port) (x0 y0 : Port) → z ≡ tail-ends x0 → x0 ≡ y0 → z ≡ tail-ends y0
 tail-ends-of z x0 y0 e h0 = e ∙ (λ j. tail-ends (h0 j))
 
-pub with-holding-of : (z : Port) (x0 y0 : Port) (x1 y1 : Holding) → z ≡ with-holding x0 x1 → x0 ≡ y0 → x1 ≡ y1 → z ≡ with-holding y0 y1
-with-holding-of z x0 y0 x1 y1 e h0 h1 = e ∙ (λ j. with-holding (h0 j) (h1 j))
+pub with-sync-next-of : (z : Port) (x0 y0 : Port) (x1 y1 : Due) → z ≡ with-sync-next x0 x1 → x0 ≡ y0 → x1 ≡ y1 → z ≡ with-sync-next y0 y1
+with-sync-next-of z x0 y0 x1 y1 e h0 h1 = e ∙ (λ j. with-sync-next (h0 j) (h1 j))
 
 pub with-tx-of : (z : Port) (x0 y0 : Port) (x1 y1 : Tx) → z ≡ with-tx x0 x1 → x0 ≡ y0 → x1 ≡ y1 → z ≡ with-tx y0 y1
 with-tx-of z x0 y0 x1 y1 e h0 h1 = e ∙ (λ j. with-tx (h0 j) (h1 j))
@@ -34,8 +34,8 @@ with-tx-of z x0 y0 x1 y1 e h0 h1 = e ∙ (λ j. with-tx (h0 j) (h1 j))
 pub with-rx-of : (z : Port) (x0 y0 : Port) (x1 y1 : Receiver) → z ≡ with-rx x0 x1 → x0 ≡ y0 → x1 ≡ y1 → z ≡ with-rx y0 y1
 with-rx-of z x0 y0 x1 y1 e h0 h1 = e ∙ (λ j. with-rx (h0 j) (h1 j))
 
-pub with-sync-next-of : (z : Port) (x0 y0 : Port) (x1 y1 : Due) → z ≡ with-sync-next x0 x1 → x0 ≡ y0 → x1 ≡ y1 → z ≡ with-sync-next y0 y1
-with-sync-next-of z x0 y0 x1 y1 e h0 h1 = e ∙ (λ j. with-sync-next (h0 j) (h1 j))
+pub with-holding-of : (z : Port) (x0 y0 : Port) (x1 y1 : Holding) → z ≡ with-holding x0 x1 → x0 ≡ y0 → x1 ≡ y1 → z ≡ with-holding y0 y1
+with-holding-of z x0 y0 x1 y1 e h0 h1 = e ∙ (λ j. with-holding (h0 j) (h1 j))
 
 pub carried-of : (z : Port) (x0 y0 : ℕ) (x1 y1 : Port) (x2 y2 : Port) → z ≡ carried x0 x1 x2 → x0 ≡ y0 → x1 ≡ y1 → x2 ≡ y2 → z ≡ carried y0 y1 y2
 carried-of z x0 y0 x1 y1 x2 y2 e h0 h1 h2 = e ∙ (λ j. carried (h0 j) (h1 j) (h2 j))

@@ -11,7 +11,9 @@ use Rattle.words.specs.declared.Receiver.{Receiver}
 use Rattle.words.specs.declared.Receiver.the-variants.{Idle, Busy}
 use Rattle.words.specs.declared.Due.the-variants.{Never}
 use Rattle.words.specs.Due.{absent, due-now, within}
-use Rattle.words.specs.Sender.{tx-next}
+use Rattle.words.specs.declared.Tx.{Tx}
+use Rattle.words.specs.declared.Tx.the-variants.{Off, Blocked, Mark, Start, Data, Tail}
+use Rattle.words.specs.Sender.{holds, tx-next}
 use Rattle.words.specs.Receiver.{rx-next}
 use Rattle.sci.specs.declared.Port.{Port}
 use Rattle.sci.specs.Fields.{with-half, with-high, with-edge}
@@ -24,6 +26,15 @@ use Rattle.sci.specs.Half.{process-basic, clocked-edge, halves}
 abbrev pub arms-on : Receiver → Port → Bool
 arms-on Idle p = arms p
 arms-on (Busy r) p = false
+
+-- the sender may begin a word: a byte is held, or a word is blocked
+abbrev pub starts-on : Tx → Port → Bool
+starts-on Off p = holds (p .holding)
+starts-on (Blocked ch) p = true
+starts-on (Mark next) p = false
+starts-on (Start ch next) p = false
+starts-on (Data ch cell next) p = false
+starts-on (Tail l next) p = false
 
 -- on the internal clock, the clock of clocked form is as `refresh-sync-clock` leaves it
 unfoldable pub clock-fresh : Port → Bool

@@ -14,7 +14,7 @@ ghost use Rattle.words.specs.Sender.{level};
 ghost use Rattle.sci.specs.Sender.{character, preload, drive, begin, start-at, start-loaded, try-start-on, try-start, one-sent, finish-tail, tailed, next-cell, send-step-on, advance-tx};
 ghost use Rattle.sci.specs.Clocked.{sync-needed, refresh-sync-clock, take-bit, receive-bit-on, receive-bit, tail-ends, bit-out, shift-out, sync-edge};
 ghost use Rattle.sci.specs.Half.{process-basic, halves, inside, uncounted};
-ghost use Rattle.sci.specs.Skip.{arms-on, edge-now, edge-level, toggled, edge-of, edge-work, clock-fresh, deadline, counted-by, Clocked, edges, idle-for};
+ghost use Rattle.sci.specs.Skip.{arms-on, starts-on, edge-now, edge-level, toggled, edge-of, edge-work, clock-fresh, deadline, counted-by, Clocked, edges, idle-for};
 ghost use Rattle.sci.specs.Registers.{handles, peek, read, sender-off, sender-on, scr-tx, write-scr, write-tdr, status-write, stored, connect, load-tail, settled, write};
 ghost use Rattle.sci.specs.Power.{fresh, carried, reset-registers, reset, set-power};
 ghost use Rattle.sci.specs.Pins.{receive-input, external-edge, pins-change, transmit-level, clock-level, clock-drive, pins, interrupt, level-number};
@@ -35,6 +35,8 @@ use words::Tx;
 // Number 4's limit on the half count.
 const LIMIT: u32 = 4_000_000_000;
 
+// Single bytes first, in the order of `Sci`, then wider fields: a port is copied sixteen bytes at a time, and such a move waits where it crosses bytes
+// that were just stored one by one.
 pub struct Port {
     pub spcr: u8,
     pub smr: u8,
@@ -50,18 +52,18 @@ pub struct Port {
     pub main: bool,
     pub sub: bool,
     pub reset_mode: bool,
-    pub half: u32,
     pub high: bool,
-    pub edge: bool,
-    pub holding: Holding,
-    pub tx: Tx,
-    pub rx: Receiver,
     pub uart: bool,
-    pub bit_start: u32,
+    pub edge: bool,
     pub input: bool,
     pub input_clock: bool,
     pub sck: bool,
+    pub half: u32,
+    pub bit_start: u32,
     pub sync_next: Due,
+    pub tx: Tx,
+    pub rx: Receiver,
+    pub holding: Holding,
     pub transmitted: u64,
     pub received: u64,
 }
@@ -804,7 +806,8 @@ impl Port {
         };
         let holding = self.holding;
         if holding.full() {
-            return self.preload().tailed(next);
+            let port = self;
+            return port.preload().tailed(next);
         }
         self
     }
@@ -814,17 +817,11 @@ impl Port {
         requires { ⌜ Ready (self .half) self ⌝ }
         ensures { λ r. ⌜ r ≡ settled self ⌝ }
     {
-        self.load_tail().try_start().armed_clock()
-    }
-
-    fn armed_clock(self) -> Port
-        requires { ⌜ Ready (self .half) self ⌝ }
-        ensures { λ r. ⌜ r ≡ refresh-sync-clock (arm-receive self) ⌝ }
-    {
-        if self.arms_now() {
-            return self.armed().refresh_sync_clock();
+        let port = self.load_tail().started();
+        if port.arms_now() {
+            return port.armed().refresh_sync_clock();
         }
-        self.refresh_sync_clock()
+        port.refresh_sync_clock()
     }
 
     fn written(self, a: u32, v: u8) -> Port
@@ -839,6 +836,7 @@ impl Port {
     }
 
     // ---- sender
+    // A branch that hands the port to a large step hands it a copy of its own (`last`, `port`): else the compiler keeps the port of every branch in memory.
     fn character(self, value: u8) -> Character
         ensures { λ r. ⌜ r ≡ character self value ⌝ }
         ensures bounded { λ r. ⌜ Bounded (r .format) ⌝ }
@@ -923,7 +921,45 @@ impl Port {
         let holding = self.holding;
         let held = holding.full();
         if (self.scr & 0x20 != 0) & (held & (!format.synchronous | !(self.ssr & 0x38 != 0))) {
-            return self.preload().started();
+            let port = self;
+            return port.preload().started();
+        }
+        self
+    }
+
+    // Whether the sender may begin a word: a byte is held, or a word is blocked.
+    fn starts(self) -> bool
+        ensures { λ r. ⌜ r ≡ starts-on (self .tx) self ⌝ }
+    {
+        let tx = self.tx;
+        match tx {
+            Tx::Off => {
+                let holding = self.holding;
+                holding.full()
+            }
+            Tx::Blocked { character: _ } => true,
+            Tx::Mark { next: _ } => false,
+            Tx::Start {
+                character: _,
+                next: _,
+            } => false,
+            Tx::Data {
+                character: _,
+                cell: _,
+                next: _,
+            } => false,
+            Tx::Tail { loaded: _, next: _ } => false,
+        }
+    }
+
+    // `try_start` after a store. Most stores start nothing, and the test is cheaper than the call.
+    fn started(self) -> Port
+        requires { ⌜ (self .half ≤ limit) × Sendable (self .tx) ⌝ }
+        ensures { λ r. ⌜ r ≡ try-start self ⌝ }
+    {
+        if self.starts() {
+            let port = self;
+            return port.try_start();
         }
         self
     }
@@ -988,7 +1024,8 @@ impl Port {
         let format = character.format;
         if cell as u32 == format.stop() {
             let next = Due::At(self.half + format.stops as u32 * format.half_bit);
-            return port.preload().tailed(next);
+            let last = port;
+            return last.preload().tailed(next);
         }
         let next = Due::At(self.half + format.half_bit);
         port.with_tx(Tx::Data {
@@ -1006,14 +1043,20 @@ impl Port {
         match tx {
             Tx::Off => self,
             Tx::Blocked { character: _ } => self,
-            Tx::Mark { next: _ } => self.with_tx(Tx::Off).try_start(),
+            Tx::Mark { next: _ } => {
+                let port = self;
+                port.with_tx(Tx::Off).try_start()
+            }
             Tx::Start { character, next: _ } => self.begin(character),
             Tx::Data {
                 character,
                 cell,
                 next: _,
             } => self.next_cell(character, cell + 1),
-            Tx::Tail { loaded, next: _ } => self.finish_tail(loaded),
+            Tx::Tail { loaded, next: _ } => {
+                let port = self;
+                port.finish_tail(loaded)
+            }
         }
     }
 
@@ -1206,7 +1249,8 @@ impl Port {
         let Due::Never = next else {
             return self;
         };
-        self.finish_tail(loaded)
+        let port = self;
+        port.finish_tail(loaded)
     }
 
     // A bit of a clocked word.
@@ -1216,7 +1260,8 @@ impl Port {
     {
         let port = self.drive(level(character, cell));
         if cell == 7 {
-            return port.preload().tailed(Due::Never);
+            let last = port;
+            return last.preload().tailed(Due::Never);
         }
         port.with_tx(Tx::Data {
             character,
