@@ -10,7 +10,7 @@ use lib.Dec.{eqb, ltb}
 use lib.IntN.{ℤ, pos, negsuc}
 use Rattle.frame.specs.declared.Format.{Format}
 use Rattle.frame.specs.Frame.{has, stop}
-use Rattle.frame.proofs.Branches.{by-cond, both-arms, cond-true, cond-false, or-left, or-right}
+use Rattle.frame.proofs.Branches.{by-cond, both-arms, cond-true, cond-false, or-left, or-right, not-true}
 use Rattle.frame.proofs.Truth.{and-left, and-right}
 use Rattle.words.specs.declared.Character.{Character}
 use Rattle.words.specs.declared.Due.{Due}
@@ -37,7 +37,7 @@ use Rattle.sci.specs.Receiver.{input-level, error-free, arms, arm-receiv
 use Rattle.sci.specs.Sender.{character, loaded-on, preloaded-on, loaded, preloaded, begin, start-at, start-loaded, try-start-on, try-start, one-sent, finish-tail, next-cell, send-step-on, advance-tx}
 use Rattle.sci.specs.Clocked.{sync-needed, with-clock, refresh-sync-clock, receive-bit-on, receive-bit, tail-ends-on, tail-ends, shift-out-on, shift-out, sync-edge}
 use Rattle.sci.specs.Half.{process-basic, sync, clocked-edge, advance, half-step}
-use Rattle.sci.specs.Skip.{arms-on, clock-fresh}
+use Rattle.sci.specs.Skip.{arms-on, rests, clock-fresh}
 use Rattle.sci.specs.Valid.{limit, valid}
 use Rattle.sci.specs.Ready.{Ready}
 use Rattle.sci.proofs.Steps.{product≤}
@@ -71,6 +71,25 @@ pub basic-still : (p : Port) → due-now (tx-next (p .tx)) (p .half) ≡ false �
 unfolding process-basic
 basic-still p t r a =
     ap (λ (q : Port). arm-receive (advance-rx q)) (tx-still p t) ∙ ap arm-receive (rx-still p r) ∙ arm-still p a
+
+-- the same by one test, put together from what calls gave
+pub rests-of : (p : Port) (d e : Due) (s r a : Bool) → d ≡ tx-next (p .tx) → s ≡ due-now d (p .half) → e ≡ rx-next (p .rx) → r ≡ due-now e (p .half) → a ≡ arms-on (p .rx) p
+    → (not s && (not r && not a)) ≡ rests p
+unfolding rests
+rests-of p d e s r a ed es ee er ea =
+    let sends : s ≡ due-now (tx-next (p .tx)) (p .half) = es ∙ ap (λ (x : Due). due-now x (p .half)) ed in
+    let receives : r ≡ due-now (rx-next (p .rx)) (p .half) = er ∙ ap (λ (x : Due). due-now x (p .half)) ee in
+    λ i. not (sends i) && (not (receives i) && not (ea i))
+
+pub basic-rests : (z p : Port) (f : Bool) → f ≡ rests p → f ≡ true → z ≡ p → z ≡ process-basic p
+unfolding rests
+basic-rests z p f ef t e =
+    let s : Bool = due-now (tx-next (p .tx)) (p .half) in
+    let r : Bool = due-now (rx-next (p .rx)) (p .half) in
+    let a : Bool = arms-on (p .rx) p in
+    let all : (not s && (not r && not a)) ≡ true = sym ef ∙ t in
+    let ra : (not r && not a) ≡ true = and-right (not s) (not r && not a) all in
+    e ∙ sym (basic-still p (not-true s (and-left (not s) (not r && not a) all)) (not-true r (and-left (not r) (not a) ra)) (not-true a (and-right (not r) (not a) ra)))
 
 pub edge-still : (p : Port) → due-now (p .«sync_next») (p .half) ≡ false → clocked-edge p ≡ p
 unfolding clocked-edge

@@ -276,14 +276,6 @@ edge-ready r p false level e h = clocked-edge-ready r p e h
 pub work-of : (z c b p : Port) (pin level : Bool) → b ≡ process-basic p → c ≡ edge-of pin level b → z ≡ refresh-sync-clock c → z ≡ edge-work pin level p
 work-of z c b p pin level eb ec e = e ∙ ap refresh-sync-clock (ec ∙ ap (edge-of pin level) eb)
 
--- a refresh that changes nothing is left out
-pub work-fresh : (z c b p : Port) (pin level f : Bool) → Clocked pin 1 p → b ≡ process-basic p → c ≡ edge-of pin level b → f ≡ clock-fresh c → (f && not pin) ≡ true → z ≡ c → z ≡ edge-work pin level p
-work-fresh z c b p true level f x eb ec ef t e = absurd (false≢true (and-right f false t))
-work-fresh z c b p false level f x eb ec ef t e =
-    let d : c ≡ clocked-edge (process-basic p) = ec ∙ ap clocked-edge eb in
-    let y : external c ≡ false = ap external d ∙ edge-internal p x in
-    e ∙ sym (refresh-still c y (sym ef ∙ and-left f true t)) ∙ ap refresh-sync-clock d
-
 keep-work : {n : ℕ} {p : Port} (pin level : Bool) → Ready n p → Ready n (edge-work pin level p)
 keep-work true level r = keep-refresh-sync-clock (keep-sync-edge (keep-process-basic r) level)
 keep-work false level r = keep-refresh-sync-clock (keep-clocked-edge (keep-process-basic r))
@@ -344,8 +336,8 @@ module _ (pin level : Bool) (r q p : Port) (left k : ℕ) (l : 1 ≤ left) (g : 
       go true h = refl
       go false h = ap external f ∙ external-counted k p ∙ h
 
-  pub counted-goes : Ready (q .half) q × Clocked pin 1 q
-  counted-goes = (own q (p .half + k) counted-ready, counted-clocked)
+  pub counted-goes : Ready (q .half) q
+  counted-goes = own q (p .half + k) counted-ready
 
   pub goes-on : r ≡ edge-work pin level q → Goes pin (left - k) r
   goes-on d =

@@ -27,6 +27,10 @@ abbrev pub arms-on : Receiver → Port → Bool
 arms-on Idle p = arms p
 arms-on (Busy r) p = false
 
+-- the basic work has nothing to do at this half
+unfoldable pub rests : Port → Bool
+rests p = not (due-now (tx-next (p .tx)) (p .half)) && (not (due-now (rx-next (p .rx)) (p .half)) && not (arms-on (p .rx) p))
+
 -- the sender may begin a word: a byte is held, or a word is blocked
 abbrev pub starts-on : Tx → Port → Bool
 starts-on Off p = holds (p .holding)

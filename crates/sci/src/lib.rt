@@ -8,13 +8,14 @@ ghost use Rattle.words.specs.declared.Receiver.the-variants.{Idle, Busy};
 ghost use Rattle.words.specs.declared.Tx.the-variants.{Off};
 ghost use Rattle.sci.specs.Fields.{with-ssr, with-rdr, with-received, with-holding, with-tx, with-rx, with-sync-next, with-input-clock};
 ghost use Rattle.sci.specs.Baud.{format-of, external, running, internal, edge-counts, next-fall, boundary};
+ghost use Rattle.words.specs.Due.{due-now};
 ghost use Rattle.words.specs.Receiver.{armed, started, bit-at, stepped, sample, bit-taken};
 ghost use Rattle.sci.specs.Receiver.{input-level, arms, arm-receive, complete-receive, after-sample, advance-rx};
 ghost use Rattle.words.specs.Sender.{level};
 ghost use Rattle.sci.specs.Sender.{character, preload, drive, begin, start-at, start-loaded, try-start-on, try-start, one-sent, finish-tail, tailed, next-cell, send-step-on, advance-tx};
 ghost use Rattle.sci.specs.Clocked.{sync-needed, refresh-sync-clock, take-bit, receive-bit-on, receive-bit, tail-ends, bit-out, shift-out, sync-edge};
 ghost use Rattle.sci.specs.Half.{process-basic, halves, inside, uncounted};
-ghost use Rattle.sci.specs.Skip.{arms-on, starts-on, edge-now, edge-level, toggled, edge-of, edge-work, clock-fresh, deadline, counted-by, Clocked, edges, idle-for};
+ghost use Rattle.sci.specs.Skip.{arms-on, starts-on, rests, edge-now, edge-level, toggled, edge-of, edge-work, clock-fresh, deadline, counted-by, Clocked, edges, idle-for};
 ghost use Rattle.sci.specs.Registers.{handles, peek, read, sender-off, sender-on, scr-tx, write-scr, write-tdr, status-write, stored, connect, load-tail, settled, write};
 ghost use Rattle.sci.specs.Power.{fresh, carried, reset-registers, reset, set-power};
 ghost use Rattle.sci.specs.Pins.{receive-input, external-edge, pins-change, transmit-level, clock-level, clock-drive, pins, interrupt, level-number};
@@ -35,25 +36,25 @@ use words::Tx;
 // Number 4's limit on the half count.
 const LIMIT: u32 = 4_000_000_000;
 
-// Single bytes first, in the order of `Sci`, then wider fields: a port is copied sixteen bytes at a time, and such a move waits where it crosses bytes
-// that were just stored one by one.
+// Not in the order of `Sci`: a port is copied sixteen bytes at a time, and such a move waits where it crosses bytes that were just stored one by one. So
+// single bytes stand first, and those that a read or a record touches end the first sixteen.
 pub struct Port {
     pub spcr: u8,
     pub smr: u8,
     pub brr: u8,
     pub scr: u8,
     pub tdr: u8,
-    pub ssr: u8,
     pub rdr: u8,
     pub semr: u8,
     pub ircr: u8,
-    pub seen: u8,
-    pub module: bool,
     pub main: bool,
     pub sub: bool,
     pub reset_mode: bool,
     pub high: bool,
+    pub module: bool,
     pub uart: bool,
+    pub seen: u8,
+    pub ssr: u8,
     pub edge: bool,
     pub input: bool,
     pub input_clock: bool,
@@ -121,6 +122,16 @@ pub enum Outcome {
 pub struct Called {
     pub outcome: Outcome,
     pub port: Port,
+}
+
+// Whether something is due at this half.
+fn due_now(due: Due, half: u32) -> bool
+    ensures { λ r. ⌜ r ≡ due-now due half ⌝ }
+{
+    let Due::At(n) = due else {
+        return false;
+    };
+    n == half
 }
 
 // ---- a word on its way
@@ -1336,12 +1347,28 @@ impl Port {
     }
 
     // ---- one half
+    // Whether the basic work has nothing to do at this half.
+    fn rests(self) -> bool
+        ensures { λ r. ⌜ r ≡ rests self ⌝ }
+    {
+        let tx = self.tx;
+        let sends = due_now(tx.next(), self.half);
+        let receiver = self.rx;
+        let receives = due_now(receiver.next(), self.half);
+        let arms = self.arms_now();
+        !sends & (!receives & !arms)
+    }
+
     // The basic work at a half.
     fn process_basic(self) -> Port
         requires { ⌜ Ready (self .half) self ⌝ }
         ensures { λ r. ⌜ r ≡ process-basic self ⌝ }
     {
-        let port = self.advance_tx().advance_rx();
+        if self.rests() {
+            return self;
+        }
+        let busy = self;
+        let port = busy.advance_tx().advance_rx();
         if port.arms_now() {
             return port.armed();
         }
@@ -1356,10 +1383,7 @@ impl Port {
             return true;
         }
         let next = self.sync_next;
-        let Due::At(edge) = next else {
-            return false;
-        };
-        edge == self.half
+        due_now(next, self.half)
     }
 
     // The level after it.
@@ -1407,15 +1431,12 @@ impl Port {
 
     // The work of an edge of the basic clock, once it is counted.
     fn advance(self, pin: bool, level: bool) -> Port
-        requires { ⌜ Ready (self .half) self × Clocked pin 1 self ⌝ }
+        requires { ⌜ Ready (self .half) self ⌝ }
         ensures { λ r. ⌜ r ≡ edge-work pin level self ⌝ }
     {
-        let port = self.process_basic().clocked_edge(pin, level);
-        let fresh = port.clock_fresh();
-        if fresh & !pin {
-            return port;
-        }
-        port.refresh_sync_clock()
+        self.process_basic()
+            .clocked_edge(pin, level)
+            .refresh_sync_clock()
     }
 
     // The halves up to the next one that may do more than count, at most left.

@@ -1,5 +1,5 @@
 use Rattle.sci.proofs.Keep.{process-basic-ready, ready-half}
-use Rattle.sci.proofs.Skip.{edge-ready, work-fresh, work-of}
+use Rattle.sci.proofs.Skip.{edge-ready, work-of}
 use borrow.Author.Needs.{needs}
 use Rattle.sci.proofs.Port.advance.Statement.{statement}
 use Rattle.sci.proofs.Port.advance.Tie as tie
@@ -10,7 +10,5 @@ advance-spec =
     (tie.spec
     (λ c κs. search needs)
     (λ c κs. search (process-basic-ready, needs) depth 10)
-    (λ c κs. search needs)
-    (λ c. search (work-fresh, needs) depth 10)
     (λ c κs. search (edge-ready, process-basic-ready, ready-half, needs) depth 10)
     (λ c. search (work-of, needs) depth 10))

@@ -1,5 +1,4 @@
 use Rattle.frame.proofs.Choose.{choose}
-use Rattle.words.proofs.Clauses.{due-now-clauses}
 use borrow.Author.Needs.{needs}
 use Rattle.sci.proofs.Port.edge_now.Statement.{statement}
 use Rattle.sci.proofs.Port.edge_now.Tie as tie
@@ -8,8 +7,6 @@ pub edge-now-spec : {M : Type 1} → statement M
 edge-now-spec =
     tie.close
     (tie.spec
-    (λ c. search (due-now-clauses, choose) depth 10)
-    (λ c. search needs)
-    (λ c. search needs)
-    (λ c. search (due-now-clauses, choose) depth 10)
-    (λ c. search (due-now-clauses, choose) depth 10))
+    (λ c. search choose depth 10)
+    (λ c κs. search needs)
+    (λ c. search choose depth 10))

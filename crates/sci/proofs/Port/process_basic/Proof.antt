@@ -1,4 +1,5 @@
 use Rattle.sci.proofs.Keep.{ready-half, ready-rx, advance-tx-ready, advance-rx-ready}
+use Rattle.sci.proofs.OnePass.{basic-rests}
 use Rattle.sci.proofs.Steps.{basic-t, basic-f}
 use borrow.Author.Needs.{needs}
 use Rattle.sci.proofs.Port.process_basic.Statement.{statement}
@@ -8,6 +9,8 @@ pub process-basic-spec : {M : Type 1} → statement M
 process-basic-spec =
     tie.close
     (tie.spec
+    (λ c κs. search needs)
+    (λ c. search (basic-rests, needs) depth 10)
     (λ c κs. search needs)
     (λ c κs. search (advance-tx-ready, ready-half, ready-rx, needs) depth 10)
     (λ c κs. search needs)
