@@ -39,23 +39,11 @@ impl Search<'_> {
     }
 
     fn without(&mut self) -> bool {
-        let mut smaller = false;
-        let mut size = self.best.calls.len();
-        while size > 0 {
-            let mut at = 0;
-            while at < self.best.calls.len() {
-                let mut case = self.best.clone();
-                let end = (at + size).min(case.calls.len());
-                case.calls.drain(at..end);
-                if self.take(case) {
-                    smaller = true;
-                } else {
-                    at += size;
-                }
-            }
-            size /= 2;
-        }
-        smaller
+        without(self.best.calls.clone(), |calls| {
+            let start = self.best.start.clone();
+            self.take(Case { start, calls })
+                .then(|| self.best.calls.clone())
+        })
     }
 
     fn operands(&mut self) -> bool {
@@ -111,6 +99,29 @@ impl Search<'_> {
         }
         smaller
     }
+}
+
+/// A list without runs of its items, long ones first; whether any could go.
+/// `take` is given a shorter list and hands back what it keeps of it, if it
+/// takes it.
+pub fn without<T: Clone>(mut best: Vec<T>, mut take: impl FnMut(Vec<T>) -> Option<Vec<T>>) -> bool {
+    let mut smaller = false;
+    let mut size = best.len();
+    while size > 0 {
+        let mut at = 0;
+        while at < best.len() {
+            let mut less = best.clone();
+            less.drain(at..(at + size).min(best.len()));
+            if let Some(kept) = take(less) {
+                best = kept;
+                smaller = true;
+            } else {
+                at += size;
+            }
+        }
+        size /= 2;
+    }
+    smaller
 }
 
 /// The state with one more field as in a fresh port, the first from `which`

@@ -3,7 +3,10 @@ use super::{
     compare::{Difference, Table},
     player::Case,
 };
-use crate::{compare::Start, shrink::plainer};
+use crate::{
+    compare::Start,
+    shrink::{plainer, without},
+};
 use model::RECORD;
 
 /// Plays at most, and script bytes played at most: an end for any script.
@@ -34,25 +37,14 @@ impl Search<'_> {
         true
     }
 
-    /// Runs of bytes left out, long ones first.
     fn without(&mut self) -> bool {
-        let mut smaller = false;
-        let mut size = self.best.script.len();
-        while size > 0 {
-            let mut at = 0;
-            while at < self.best.script.len() {
-                let mut case = self.best.clone();
-                let end = (at + size).min(case.script.len());
-                case.script.drain(at..end);
-                if self.take(case) {
-                    smaller = true;
-                } else {
-                    at += size;
-                }
-            }
-            size /= 2;
-        }
-        smaller
+        without(self.best.script.clone(), |script| {
+            let case = Case {
+                script,
+                ..self.best.clone()
+            };
+            self.take(case).then(|| self.best.script.clone())
+        })
     }
 
     /// A shorter log, to the end of a record or less.
