@@ -12,6 +12,7 @@ pub mod fuzz;
 pub mod layout;
 pub mod lists;
 pub mod port;
+pub mod program;
 pub mod run;
 pub mod scripts;
 pub mod shrink;

@@ -5,6 +5,7 @@ use differential::{
     OraclePort, Port,
     alter::ALTERATIONS,
     document,
+    program::{self, Arguments, Said, Summary},
     run::{Family, Outcome, Plan, Sides, report, run, self_test},
 };
 use std::{
@@ -66,30 +67,25 @@ fn options() -> Result<Options, String> {
         coverage: false,
         side: Side::Capi,
     };
-    let mut arguments = std::env::args().skip(1);
-    while let Some(name) = arguments.next() {
-        let mut value = || arguments.next().ok_or(format!("{name} needs a value"));
-        let number = |text: String| {
-            text.parse::<u64>()
-                .map_err(|_| format!("{text} is no number"))
-        };
+    let mut arguments = Arguments::of_process();
+    while let Some(name) = arguments.option() {
         // These leave the gate what it is.
         o.gate &= matches!(name.as_str(), "--coverage" | "--side" | "--seed");
         match name.as_str() {
-            "--seconds" => o.plan.time = Some(Duration::from_secs(number(value()?)?)),
-            "--calls" => o.plan.calls = number(value()?)?,
-            "--seed" => o.plan.seed = number(value()?)?,
+            "--seconds" => o.plan.time = Some(Duration::from_secs(arguments.number()?)),
+            "--calls" => o.plan.calls = arguments.number()?,
+            "--seed" => o.plan.seed = arguments.number()?,
             "--family" => {
-                let letter = value()?;
+                let letter = arguments.value()?;
                 let family = Family::from_letter(&letter);
                 o.plan.family = Some(family.ok_or(format!("{letter} is no family"))?);
             }
-            "--alter" => o.alter = Some(number(value()?)? as usize),
+            "--alter" => o.alter = Some(arguments.number()? as usize),
             "--self-test" => o.self_test = true,
             "--document" => o.document = true,
             "--coverage" => o.coverage = true,
             "--side" => {
-                o.side = match value()?.as_str() {
+                o.side = match arguments.value()?.as_str() {
                     "capi" => Side::Capi,
                     "oracle" => Side::Oracle,
                     other => return Err(format!("{other} is no side")),
@@ -132,7 +128,7 @@ fn arrays(_: u64) -> (u64, Vec<String>) {
 }
 
 fn main() -> ExitCode {
-    let begun = Instant::now();
+    let mut summary = Summary::begin();
     let built = options().and_then(|o| {
         let port = match o.side {
             Side::Capi => capi()?,
@@ -158,45 +154,25 @@ fn main() -> ExitCode {
         return ExitCode::from(u8::from(options.alter != Some(0)) * 2);
     }
 
-    let mut said = Vec::new();
-    let mut good = true;
-    let only = options.self_test || options.document;
     if options.gate || options.document {
-        let (text, agrees) = documents(&mut sides);
-        said.push(text);
-        good &= agrees;
-    }
-    if (options.gate || options.document) && options.side == Side::Capi {
-        let (tried, wrong) = arrays(options.plan.seed);
-        for line in wrong.iter().take(20) {
-            println!("ARRAY {line}");
+        summary.add(documents(&mut sides));
+        if options.side == Side::Capi {
+            summary.arrays(arrays(options.plan.seed));
         }
-        said.push(format!("{tried} arrays, {} wrong", wrong.len()));
-        good &= wrong.is_empty();
     }
     if options.gate || options.self_test {
-        let (text, reported) = alterations(&mut sides, options.plan.seed);
-        said.push(text);
-        good &= reported;
+        summary.add(alterations(&mut sides, options.plan.seed));
     }
-    if !only {
-        let (text, agrees) = families(&mut sides, &options);
-        said.insert(0, text);
-        good &= agrees;
+    if !options.self_test && !options.document {
+        summary.add_first(families(&mut sides, &options));
     }
     if options.side == Side::Oracle {
-        said.push("NO PORT COMPARED, oracle on both sides".into());
+        summary.note("NO PORT COMPARED, oracle on both sides");
     }
-    println!(
-        "differential: {}, {:.0} s: {}",
-        said.join("; "),
-        begun.elapsed().as_secs_f64(),
-        if good { "ok" } else { "FAILED" }
-    );
-    ExitCode::from(u8::from(!good))
+    summary.end("differential")
 }
 
-fn documents(sides: &mut Sides) -> (String, bool) {
+fn documents(sides: &mut Sides) -> Said {
     let mut cases = 0;
     let mut differing = 0;
     let (reference, port) = sides.both();
@@ -219,7 +195,7 @@ fn documents(sides: &mut Sides) -> (String, bool) {
     )
 }
 
-fn alterations(sides: &mut Sides, seed: u64) -> (String, bool) {
+fn alterations(sides: &mut Sides, seed: u64) -> Said {
     let tried = self_test(sides, seed, ALTERED_CALLS);
     let mut missed = 0;
     for (place, one) in tried.iter().enumerate() {
@@ -247,7 +223,7 @@ fn alterations(sides: &mut Sides, seed: u64) -> (String, bool) {
     )
 }
 
-fn families(sides: &mut Sides, options: &Options) -> (String, bool) {
+fn families(sides: &mut Sides, options: &Options) -> Said {
     let begun = Instant::now();
     let alteration = options.alter.map(|k| &ALTERATIONS[k - 1]);
     let outcome = run(sides, &options.plan, alteration);
@@ -271,20 +247,10 @@ fn families(sides: &mut Sides, options: &Options) -> (String, bool) {
     (text, outcome.found.is_none() && covered)
 }
 
-fn coverage(outcome: &Outcome, options: &Options) -> (String, bool) {
+fn coverage(outcome: &Outcome, options: &Options) -> Said {
     let (counts, zero) = outcome.coverage.missing();
-    let asserted = options.plan.family.is_none() && outcome.total() >= ASSERTED_FROM;
-    if outcome.found.is_some() || !asserted {
-        return (
-            format!("coverage not asserted ({} of {counts} zero)", zero.len()),
-            true,
-        );
-    }
-    for name in &zero {
-        println!("COVERAGE zero: {name}");
-    }
-    (
-        format!("coverage {} of {counts}", counts - zero.len()),
-        zero.is_empty(),
-    )
+    let asserted = outcome.found.is_none()
+        && options.plan.family.is_none()
+        && outcome.total() >= ASSERTED_FROM;
+    program::coverage(counts, &zero, asserted)
 }

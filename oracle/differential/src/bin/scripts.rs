@@ -3,6 +3,7 @@
 //! asserted coverage. The last line is the summary.
 use differential::{
     OraclePort,
+    program::{self, Arguments, Said, Summary},
     scripts::{
         calls::{CallsPlayer, Wrong},
         coverage::Coverage,
@@ -77,30 +78,25 @@ fn options() -> Result<Options, String> {
         threads: processors.map_or(1, |n| n.get() as u64),
         side: Side::Capi,
     };
-    let mut arguments = std::env::args().skip(1);
-    while let Some(name) = arguments.next() {
-        let mut value = || arguments.next().ok_or(format!("{name} needs a value"));
-        let number = |text: String| {
-            text.parse::<u64>()
-                .map_err(|_| format!("{text} is no number"))
-        };
+    let mut arguments = Arguments::of_process();
+    while let Some(name) = arguments.option() {
         // These leave the gate what it is.
         o.gate &= matches!(name.as_str(), "--coverage" | "--side" | "--threads");
         match name.as_str() {
             "--long" => o.long = true,
             "--part" => {
-                let text = value()?;
+                let text = arguments.value()?;
                 o.part = Some(Part::named(&text).ok_or(format!("{text} is no part"))?);
             }
-            "--seed" => o.seed = Some(number(value()?)?),
-            "--scripts" => o.scripts = Some(number(value()?)?),
-            "--seconds" => o.time = Some(Duration::from_secs(number(value()?)?)),
-            "--wrong" => o.wrong = Some(number(value()?)? as usize),
+            "--seed" => o.seed = Some(arguments.number()?),
+            "--scripts" => o.scripts = Some(arguments.number()?),
+            "--seconds" => o.time = Some(Duration::from_secs(arguments.number()?)),
+            "--wrong" => o.wrong = Some(arguments.number()? as usize),
             "--self-test" => o.self_test = true,
             "--coverage" => o.coverage = true,
-            "--threads" => o.threads = number(value()?)?.max(1),
+            "--threads" => o.threads = arguments.number()?.max(1),
             "--side" => {
-                o.side = match value()?.as_str() {
+                o.side = match arguments.value()?.as_str() {
                     "capi" => Side::Capi,
                     "calls" => Side::Calls,
                     "oracle" => Side::Oracle,
@@ -181,7 +177,7 @@ fn player(o: &Options) -> Result<Box<dyn Player>, String> {
 }
 
 fn main() -> ExitCode {
-    let begun = Instant::now();
+    let mut summary = Summary::begin();
     let options = match options() {
         Ok(options) => options,
         Err(line) => return usage(&line),
@@ -200,40 +196,23 @@ fn main() -> ExitCode {
     {
         return usage(&line);
     }
-    let mut said = Vec::new();
-    let mut good = true;
     let proved = options.side == Side::Capi && options.wrong.is_none();
     if !options.self_test {
-        let (text, agrees) = parts(&options);
-        said.push(text);
-        good &= agrees;
+        summary.add(parts(&options));
     }
     if (options.gate || options.long) && proved {
-        let (tried, wrong) = arrays();
-        for line in wrong.iter().take(20) {
-            println!("ARRAY {line}");
-        }
-        said.push(format!("{tried} arrays, {} wrong", wrong.len()));
-        good &= wrong.is_empty();
+        summary.arrays(arrays());
     }
     if options.self_test {
-        let (text, reported) = wrong_players(options.threads);
-        said.push(text);
-        good &= reported;
+        summary.add(wrong_players(options.threads));
     }
     if !proved && !options.self_test {
-        said.push(match (options.wrong, options.side) {
-            (None, Side::Calls) => "NO PLAYER COMPARED, only the direct calls".into(),
-            _ => "NO PORT COMPARED, oracle on both sides".into(),
+        summary.note(match (options.wrong, options.side) {
+            (None, Side::Calls) => "NO PLAYER COMPARED, only the direct calls",
+            _ => "NO PORT COMPARED, oracle on both sides",
         });
     }
-    println!(
-        "scripts: {}, {:.0} s: {}",
-        said.join("; "),
-        begun.elapsed().as_secs_f64(),
-        if good { "ok" } else { "FAILED" }
-    );
-    ExitCode::from(u8::from(!good))
+    summary.end("scripts")
 }
 
 fn usage(line: &str) -> ExitCode {
@@ -241,7 +220,7 @@ fn usage(line: &str) -> ExitCode {
     ExitCode::from(2)
 }
 
-fn wrong_players(threads: u64) -> (String, bool) {
+fn wrong_players(threads: u64) -> Said {
     let tried = self_test(&trial(WRONG_SCRIPTS, SEED), threads);
     let mut missed = 0;
     for (place, one) in tried.iter().enumerate() {
@@ -268,7 +247,7 @@ fn wrong_players(threads: u64) -> (String, bool) {
     )
 }
 
-fn parts(options: &Options) -> (String, bool) {
+fn parts(options: &Options) -> Said {
     let make = || player(options).expect("it was made before");
     let make: Make = &make;
     let mut coverage = Coverage::default();
@@ -311,16 +290,7 @@ fn parts(options: &Options) -> (String, bool) {
         coverage.scripts, counts, coverage.bytes, coverage.records
     );
     let few = options.scripts.is_some_and(|count| count < ASSERTED_FROM);
-    if options.part.is_some() || few {
-        let text = format!(
-            "{text}, coverage not asserted ({} of {all} zero)",
-            zero.len()
-        );
-        return (text, true);
-    }
-    for name in &zero {
-        println!("COVERAGE zero: {name}");
-    }
-    let text = format!("{text}, coverage {} of {all}", all - zero.len());
-    (text, zero.is_empty())
+    let asserted = options.part.is_none() && !few;
+    let (covered, good) = program::coverage(all, &zero, asserted);
+    (format!("{text}, {covered}"), good)
 }
