@@ -1,7 +1,7 @@
 //! The reference's players: the one that does what `sci3_play` does, from a
 //! script's bytes to the log, and a bare one over commands read beforehand.
 use crate::port::Reference;
-use model::{Command, LIMIT, RECORD, decode};
+use model::{Command, LIMIT, RECORD, decode, registers::IRCR};
 use reference::Sci;
 
 /// A script's bytes: numbers read, ranges and refusals tested, records
@@ -43,7 +43,7 @@ fn refused(number: u8, at: usize) -> String {
 fn refusal(port: &Reference, Command { kind, a, b }: Command) -> Option<u8> {
     match kind {
         1 | 2 if !Sci::handles(a as u16) => Some(1),
-        2 if a == 0xffa7 && b & 0x80 != 0 => Some(3),
+        2 if a == IRCR && b & 0x80 != 0 => Some(3),
         3 if port.counting() && port.half() + u64::from(a) > LIMIT.into() => Some(4),
         // At the limit the phase would decide; no benchmark goes there.
         5 if port.half() >= LIMIT.into() => Some(4),

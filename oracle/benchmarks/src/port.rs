@@ -1,7 +1,7 @@
 //! The reference as its board drives it, or stepped half by half. Nothing is
 //! tested on the way, as `model::Oracle` does it: what is measured is the
 //! reference. That it ends where the oracle ends is compared outside.
-use model::{Command, Setup, State};
+use model::{Command, Setup, State, registers::SSR};
 use reference::{Clocks, Error, Frequencies, Sci, Time};
 
 /// How time passes.
@@ -85,7 +85,7 @@ impl Reference {
         [
             kind as u8,
             answer,
-            self.sci.peek(0xff9c),
+            self.sci.peek(SSR as u16),
             self.sci.pins().transmit.map_or(2, u8::from),
             self.sci.interrupt().into(),
         ]

@@ -1,14 +1,11 @@
 //! What the cases are made of: the commands that bring a port to work, and
 //! those of one round, which is a word, a wait, or one call of each register.
 use differential::lists::{PROFILES, of_profile};
-use model::{ADDRESSES, Command, sample::Random};
-
-const SPCR: u32 = 0xff91;
-const SMR: u32 = 0xff98;
-const SCR: u32 = 0xff9a;
-const TDR: u32 = 0xff9b;
-const RDR: u32 = 0xff9d;
-const SEMR: u32 = 0xffa6;
+use model::{
+    Command,
+    registers::{ADDRESSES, IRCR, RDR, SCR, SEMR, SMR, SPCR, TDR},
+    sample::Random,
+};
 
 const fn call(kind: u32, a: u32, b: u32) -> Command {
     Command { kind, a, b }
@@ -144,19 +141,19 @@ pub fn edges(r: &mut Random, out: &mut Vec<Command>) {
 
 /// Each register once.
 pub fn reads(_: &mut Random, out: &mut Vec<Command>) {
-    out.extend(ADDRESSES.map(|address| read(address.into())));
+    out.extend(ADDRESSES.map(read));
 }
 /// Each register once, any value but what starts work or chooses a clock.
 pub fn writes(r: &mut Random, out: &mut Vec<Command>) {
     for address in ADDRESSES {
         let value = r.byte()
             & match address {
-                0xff98 => 0x7c,
-                0xff9a => 0xc4,
-                0xffa7 => 0x7f,
+                SMR => 0x7c,
+                SCR => 0xc4,
+                IRCR => 0x7f,
                 _ => 0xff,
             };
-        out.push(write(address.into(), value));
+        out.push(write(address, value));
     }
 }
 
@@ -169,10 +166,10 @@ pub fn mixed(r: &mut Random, out: &mut Vec<Command>) {
 }
 /// The profiles hold a few calls that are refused wherever they stand.
 fn model_accepts(c: Command) -> bool {
-    let address = ADDRESSES.iter().any(|known| u32::from(*known) == c.a);
+    let address = ADDRESSES.contains(&c.a);
     match c.kind {
         1 => address,
-        2 => address && c.b <= 255 && !(c.a == 0xffa7 && c.b & 0x80 != 0),
+        2 => address && c.b <= 255 && !(c.a == IRCR && c.b & 0x80 != 0),
         3 => c.a <= 0xffff,
         4 => c.a <= 1,
         5 => c.a <= 1 && c.b <= 1,

@@ -4,7 +4,10 @@ use crate::{
     Part,
     tools::{after, end, end_line, ends, sender, shows},
 };
-use model::{LIMIT, Oracle, Rx, State, Tx, bytes, format, play};
+use model::{
+    LIMIT, Oracle, Rx, State, Tx, bytes, format, play,
+    registers::{SCR, SMR, TDR},
+};
 
 pub fn all() -> Vec<Part> {
     [
@@ -39,9 +42,9 @@ fn words() -> Vec<Part> {
         .map(|(smr, value, word)| {
             let mut port = Oracle::fresh();
             port.call(6, 3, 0);
-            port.call(2, 0xff98, smr.into());
-            port.call(2, 0xff9a, 0x20);
-            port.call(2, 0xff9b, value.into());
+            port.call(2, SMR, smr.into());
+            port.call(2, SCR, 0x20);
+            port.call(2, TDR, value.into());
             // Through the mark, if there is one, to the word's first cell.
             while !matches!(port.state().tx, Some(Tx::Data { .. })) {
                 port.call(3, 1, 0);

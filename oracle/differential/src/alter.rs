@@ -1,7 +1,10 @@
 //! Proof that the runner can fail: each of these changes what the reference
 //! shows, mostly in one situation only, as a mistake in a port would.
 use crate::port::Shown;
-use model::{Answer, ClockDrive, Command, LIMIT, Rx, State, Tx};
+use model::{
+    Answer, ClockDrive, Command, LIMIT, Rx, State, Tx,
+    registers::{RDR, SCR, SSR, TDR},
+};
 
 pub struct Alteration {
     pub name: &'static str,
@@ -65,7 +68,7 @@ alterations! {
         }
     }
     "flag: RDRF kept by an RDR read": |before, call, shown| {
-        if (call.kind, call.a) == (1, 0xff9d) && accepted(shown) {
+        if (call.kind, call.a) == (1, RDR) && accepted(shown) {
             shown.state.ssr |= before.ssr & 0x40;
         }
     }
@@ -75,12 +78,12 @@ alterations! {
         }
     }
     "flag: unseen bits cleared by an SSR write": |before, call, shown| {
-        if (call.kind, call.a) == (2, 0xff9c) && shown.state.scr & 0x20 == 0 && before.module {
+        if (call.kind, call.a) == (2, SSR) && shown.state.scr & 0x20 == 0 && before.module {
             shown.state.ssr &= call.b as u8 | 0x87;
         }
     }
     "seen: TEND's bit kept by an SSR write": |before, call, shown| {
-        if (call.kind, call.a) == (2, 0xff9c) && accepted(shown) {
+        if (call.kind, call.a) == (2, SSR) && accepted(shown) {
             shown.state.seen |= before.seen & 4;
         }
     }
@@ -179,12 +182,12 @@ alterations! {
         }
     }
     "holding: an unsent byte is not replaced": |before, call, shown| {
-        if (call.kind, call.a) == (2, 0xff9b) && before.holding.is_some() && shown.state.holding.is_some() {
+        if (call.kind, call.a) == (2, TDR) && before.holding.is_some() && shown.state.holding.is_some() {
             shown.state.holding = before.holding;
         }
     }
     "holding: kept by TE off": |before, call, shown| {
-        if (call.kind, call.a) == (2, 0xff9a) && shown.state.scr & 0x20 == 0 {
+        if (call.kind, call.a) == (2, SCR) && shown.state.scr & 0x20 == 0 {
             shown.state.holding = before.holding;
         }
     }
@@ -223,7 +226,7 @@ alterations! {
         }
     }
     "answer: bit 2 of a read of SSR": |_, call, shown| {
-        if (call.kind, call.a) == (1, 0xff9c) && let Answer::Done(value) = &mut shown.answer {
+        if (call.kind, call.a) == (1, SSR) && let Answer::Done(value) = &mut shown.answer {
             *value &= !4;
         }
     }

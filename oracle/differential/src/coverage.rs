@@ -5,7 +5,10 @@ use crate::{
     lists::PROFILES,
     states::BREAKS,
 };
-use model::{Answer, Character, ClockDrive, LIMIT, Rx, State, Tx, counting, format};
+use model::{
+    Answer, Character, ClockDrive, LIMIT, Rx, State, Tx, counting, format,
+    registers::{RDR, SCR, SMR, SSR, TDR},
+};
 
 macro_rules! table {
     ($(#[$doc:meta])* $name:ident { $($row:ident = $text:literal,)* }) => {
@@ -344,11 +347,11 @@ impl Coverage {
         let (before, after) = (step.before, step.after);
         self.event(before, Event::Read);
         self.met_if(
-            step.call.a == 0xff9d && before.ssr & !after.ssr & 0x40 != 0,
+            step.call.a == RDR && before.ssr & !after.ssr & 0x40 != 0,
             Met::ReadClears,
         );
         self.met_if(
-            step.call.a == 0xff9c && before.seen != after.seen,
+            step.call.a == SSR && before.seen != after.seen,
             Met::ReadMarks,
         );
     }
@@ -379,7 +382,7 @@ impl Coverage {
         let te = s.scr & 0x20 != 0;
         let f = format(s.smr, s.semr);
         match address {
-            0xff9a => {
+            SCR => {
                 let on = value & 0x20 != 0;
                 self.event(
                     s,
@@ -402,12 +405,12 @@ impl Coverage {
                 self.met_if(s.scr & 2 == 0 && value & 2 != 0, Met::ExternalOn);
                 self.met_if(s.scr & 2 != 0 && value & 2 == 0, Met::ExternalOff);
             }
-            0xff9b => {
+            TDR => {
                 self.event(s, Event::Tdr);
                 self.met_if(te && s.holding.is_some(), Met::HoldingReplaced);
             }
-            0xff9c => self.status(step, te),
-            0xff98 if (s.smr ^ value) & 0x80 != 0 => self.event(s, Event::Mode),
+            SSR => self.status(step, te),
+            SMR if (s.smr ^ value) & 0x80 != 0 => self.event(s, Event::Mode),
             _ => self.event(s, Event::Write),
         }
         // A write may load and begin a word at once.

@@ -1,7 +1,10 @@
 //! Document 01's own cases as direct calls on one side, with the figures that
 //! the document prints.
 use crate::port::Port;
-use model::{Answer, Command, LIMIT, Rx, State, Tx, bytes, decode, format};
+use model::{
+    Answer, Command, LIMIT, Rx, State, Tx, bytes, decode, format,
+    registers::{SCR, SMR, TDR},
+};
 
 /// One case: what it is, the document's figure, and what the side gave.
 pub struct Part {
@@ -183,9 +186,9 @@ pub fn all(port: &mut dyn Port) -> Vec<Part> {
 fn sent_word(port: &mut dyn Port, smr: u32, value: u32) -> Result<String> {
     port.fresh();
     call(port, 6, 3, 0)?;
-    call(port, 2, 0xff98, smr)?;
-    call(port, 2, 0xff9a, 0x20)?;
-    call(port, 2, 0xff9b, value)?;
+    call(port, 2, SMR, smr)?;
+    call(port, 2, SCR, 0x20)?;
+    call(port, 2, TDR, value)?;
     // Through the mark, if there is one, to the word's first cell.
     for _ in 0..2000 {
         if let Some(Tx::Data { character, .. }) = port.state()?.tx {

@@ -1,19 +1,10 @@
 //! Lists of calls from a fresh port, in profiles, by seed.
 use model::{
-    ADDRESSES, Command, Format, format,
+    Command, Format, format,
+    registers::{ADDRESSES, BESIDE, BRR, IRCR, RDR, SCR, SEMR, SMR, SPCR, SSR, TDR},
     sample::{self, Random},
     word,
 };
-
-const SPCR: u32 = 0xff91;
-const SMR: u32 = 0xff98;
-const BRR: u32 = 0xff99;
-const SCR: u32 = 0xff9a;
-const TDR: u32 = 0xff9b;
-const SSR: u32 = 0xff9c;
-const RDR: u32 = 0xff9d;
-const SEMR: u32 = 0xffa6;
-const IRCR: u32 = 0xffa7;
 
 /// Adds the calls of one list.
 pub type Profile = fn(&mut List);
@@ -228,11 +219,11 @@ fn anything(l: &mut List) {
         let (a, b) = (l.r.below(16), l.r.below(16));
         match 1 + l.r.below(7) {
             1 => {
-                let address = l.r.pick(&ADDRESSES).into();
+                let address = l.r.pick(&ADDRESSES);
                 l.read(address);
             }
             2 => {
-                let address = l.r.pick(&ADDRESSES).into();
+                let address = l.r.pick(&ADDRESSES);
                 let value = l.byte();
                 l.write(address, value);
             }
@@ -490,8 +481,8 @@ pub fn refused(r: &mut Random) -> Command {
         _ => r.below(2 * most + 4),
     };
     let address = |r: &mut Random| match r.below(4) {
-        0 => r.pick(&ADDRESSES).into(),
-        1 => r.pick(&[0, 0xff90, 0xff92, 0xff97, 0xff9e, 0xffa5, 0xffa8, 0xffff]),
+        0 => r.pick(&ADDRESSES),
+        1 => r.pick(&BESIDE),
         2 => r.below(0x1_0000),
         _ => beyond(r, 0xffff),
     };
@@ -500,7 +491,7 @@ pub fn refused(r: &mut Random) -> Command {
         0 => (1, address(r), any),
         1 | 2 => (2, address(r), beyond(r, 255)),
         3 => (2, IRCR, r.byte().into()),
-        4 => (2, r.pick(&ADDRESSES).into(), beyond(r, 255)),
+        4 => (2, r.pick(&ADDRESSES), beyond(r, 255)),
         5 => (3, 0x1_0000 + r.below(3), any),
         6 => (4, beyond(r, 1), any),
         7 => (5, beyond(r, 1), r.below(2)),

@@ -6,6 +6,7 @@ use crate::{
 };
 use model::{
     Command, Format, LIMIT, State, Tx, failed_clauses,
+    registers::{RDR, SCR, SMR, SSR, TDR},
     sample::{self, Random},
 };
 
@@ -91,17 +92,13 @@ fn aimed(r: &mut Random, s: &State) -> Command {
             (3, (halves + r.below(3)).saturating_sub(1), 0)
         }
         4 => (3, 1, 0),
-        5 | 6 => (
-            2,
-            0xff9a,
-            (r.byte() & 0xcf | r.pick(&[0, 0x20, 0x30])).into(),
-        ),
-        7 => (2, 0xff9c, r.pick(&[0x00, 0x7f, 0xff, 0x80, 0x87, 0xc7])),
-        8 => (2, 0xff9b, r.byte().into()),
-        9 => (2, 0xff98, (s.smr ^ 0x80).into()),
+        5 | 6 => (2, SCR, (r.byte() & 0xcf | r.pick(&[0, 0x20, 0x30])).into()),
+        7 => (2, SSR, r.pick(&[0x00, 0x7f, 0xff, 0x80, 0x87, 0xc7])),
+        8 => (2, TDR, r.byte().into()),
+        9 => (2, SMR, (s.smr ^ 0x80).into()),
         10..12 => (5, r.below(2), r.below(2)),
         12 => (6, r.below(16), 0),
-        13 => (1, r.pick(&[0xff9c, 0xff9d]), 0),
+        13 => (1, r.pick(&[SSR, RDR]), 0),
         14 => (4, r.below(2), 0),
         _ => return sample::call(r),
     };

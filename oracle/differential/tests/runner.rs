@@ -12,6 +12,7 @@ use differential::{
 };
 use model::{
     Command, State, failed_clauses, field_test,
+    registers::{SCR, SMR, SSR},
     sample::{self, Random},
 };
 
@@ -147,12 +148,12 @@ fn clock_drive_is_free_only_after_clocked_output() {
     let call = |kind, a, b| Command { kind, a, b };
     let mut calls = vec![
         call(6, 3, 0),
-        call(2, 0xff98, 0x80),
-        call(2, 0xff9a, 0x30),
+        call(2, SMR, 0x80),
+        call(2, SCR, 0x30),
         // Clocked output ends here; the next two leave the drive free.
-        call(2, 0xff98, 0x00),
-        call(1, 0xff9c, 0),
-        call(2, 0xff9a, 0x01),
+        call(2, SMR, 0x00),
+        call(1, SSR, 0),
+        call(2, SCR, 0x01),
     ];
     let mut free = Vec::new();
     let mut sides = sides();

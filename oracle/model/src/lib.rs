@@ -4,6 +4,7 @@
 mod field_test;
 mod frame;
 mod oracle;
+pub mod registers;
 mod rules;
 pub mod sample;
 mod script;
@@ -12,5 +13,5 @@ pub use field_test::{LIMIT, failed_clauses, field_test};
 pub use frame::{cells, format, stop, word};
 pub use oracle::{Answer, ClockDrive, Fault, Habits, Oracle, Pass, SECOND, Setup};
 pub use reference::{Character, Format, Rx, State, Tx};
-pub use rules::{ADDRESSES, counting, refusal};
+pub use rules::{counting, refusal};
 pub use script::{Command, Decoded, End, RECORD, Run, bytes, decode, line, play};

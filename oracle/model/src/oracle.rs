@@ -1,5 +1,6 @@
 //! A port of the reference with its clocks and its time, and the direct
 //! calls of document 01 on it.
+use crate::registers::SSR;
 use crate::rules::{counting, refusal};
 use reference::{Clocks, Drive, Error, Frequencies, Sci, State, Time};
 use std::fmt;
@@ -168,7 +169,7 @@ impl Oracle {
     }
     /// SSR as it stands; unlike a read it marks nothing as seen.
     pub fn ssr(&self) -> u8 {
-        self.sci.peek(0xff9c)
+        self.sci.peek(SSR as u16)
     }
     /// The transmit level: 0, 1, or 2 when not driven.
     pub fn level(&self) -> u8 {

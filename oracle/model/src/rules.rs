@@ -1,13 +1,8 @@
 //! The refusals of a direct call, from document 01's table. None of this is
 //! in the reference.
 use crate::field_test::{LIMIT, field_test};
+use crate::registers::{ADDRESSES, IRCR};
 use reference::State;
-
-/// The nine registers, in document 01's order.
-pub const ADDRESSES: [u16; 9] = [
-    0xff91, 0xff98, 0xff99, 0xff9a, 0xff9b, 0xff9c, 0xff9d, 0xffa6, 0xffa7,
-];
-const IRCR: u32 = 0xffa7;
 
 /// Whether the port runs at all, on whichever clock.
 fn running(s: &State) -> bool {
@@ -53,7 +48,7 @@ fn edges(s: &State, kind: u32, a: u32, b: u32) -> u32 {
 
 /// 1, 3 and 4, which the player tests when the whole command is read.
 pub(crate) fn late_refusal(s: &State, kind: u32, a: u32, b: u32) -> Option<u8> {
-    if matches!(kind, 1 | 2) && !ADDRESSES.iter().any(|known| u32::from(*known) == a) {
+    if matches!(kind, 1 | 2) && !ADDRESSES.contains(&a) {
         return Some(1);
     }
     if kind == 2 && a == IRCR && b & 0x80 != 0 {

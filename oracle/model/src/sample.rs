@@ -1,7 +1,7 @@
 //! Random calls and random states that pass the field test, by seed.
 use crate::field_test::LIMIT;
 use crate::frame::{format, stop, word};
-use crate::rules::ADDRESSES;
+use crate::registers::{ADDRESSES, IRCR, RDR, SCR, SEMR, SMR, SPCR, SSR, TDR};
 use crate::script::Command;
 use reference::{Character, Rx, State, Tx};
 
@@ -41,21 +41,21 @@ impl Random {
 
 /// A register value that keeps most ports alive: transmitter and receiver
 /// mostly on, the clock mostly internal, otherwise anything.
-fn value(r: &mut Random, address: u16) -> u8 {
+fn value(r: &mut Random, address: u32) -> u8 {
     match address {
-        0xff9a => match r.below(8) {
+        SCR => match r.below(8) {
             0 => r.byte(),
             1 => r.pick(&[0x00, 0x02, 0x12, 0x22, 0x32]),
             _ => r.pick(&[0x10, 0x20, 0x30, 0x30]),
         },
-        0xff98 => match r.below(4) {
+        SMR => match r.below(4) {
             0 => r.byte(),
             1 => 0x80,
             _ => r.byte() & 0x7f,
         },
-        0xff91 => r.pick(&[0x00, 0x10, 0x10, 0x11, 0x13]),
+        SPCR => r.pick(&[0x00, 0x10, 0x10, 0x11, 0x13]),
         // Bit 7 would only be refused.
-        0xffa7 => r.byte() & 0x7f,
+        IRCR => r.byte() & 0x7f,
         _ => r.byte(),
     }
 }
@@ -81,15 +81,15 @@ fn power(r: &mut Random) -> u32 {
 /// A call that is mostly accepted and mostly moves something.
 pub fn call(r: &mut Random) -> Command {
     let (kind, a, b) = match r.below(32) {
-        0..4 => (1, r.pick(&ADDRESSES).into(), 0),
-        4..7 => (1, 0xff9c, 0),
-        7..9 => (1, 0xff9d, 0),
+        0..4 => (1, r.pick(&ADDRESSES), 0),
+        4..7 => (1, SSR, 0),
+        7..9 => (1, RDR, 0),
         9..15 => {
             let address = r.pick(&ADDRESSES);
-            (2, address.into(), value(r, address).into())
+            (2, address, value(r, address).into())
         }
-        15 => (2, 0xff9b, r.byte().into()),
-        16 => (2, 0xff9c, r.pick(&[0x00, 0x80, 0xbf, 0x87])),
+        15 => (2, TDR, r.byte().into()),
+        16 => (2, SSR, r.pick(&[0x00, 0x80, 0xbf, 0x87])),
         17 => (7, 0, 0),
         18 => (6, power(r), 0),
         19..23 => (4, r.bit().into(), 0),
@@ -106,11 +106,11 @@ pub fn opening(r: &mut Random) -> Vec<Command> {
         a: 3,
         b: 0,
     }];
-    for address in [0xff91, 0xff98, 0xffa6, 0xff9a] {
+    for address in [SPCR, SMR, SEMR, SCR] {
         calls.push(Command {
             kind: 2,
             a: address,
-            b: value(r, address as u16).into(),
+            b: value(r, address).into(),
         });
     }
     calls

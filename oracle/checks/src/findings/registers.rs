@@ -3,7 +3,7 @@ use crate::{
     Part,
     tools::{after, bit, due, ends, given, hex, receiver, sender, shows},
 };
-use model::{Oracle, State};
+use model::{Oracle, State, registers::RDR};
 
 /// 6: an SSR write loads the holding place and forgets seen bits.
 pub fn status_write() -> Vec<Part> {
@@ -76,7 +76,7 @@ pub fn end_of_write() -> Vec<Part> {
 pub fn reads() -> Vec<Part> {
     let seen = |s: &State| format!("seen {:02X}", s.seen);
     let mut off = Oracle::from_state(&given(|s| s.ssr = 0xc4));
-    off.call(1, 0xff9d, 0);
+    off.call(1, RDR, 0);
     let request = |change: fn(&mut State)| {
         let state = given(|s| {
             s.scr = 0x80;

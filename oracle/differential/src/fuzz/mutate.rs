@@ -8,7 +8,8 @@ use crate::{
     scripts::make::Script,
 };
 use model::{
-    ADDRESSES, Command, decode,
+    Command, decode,
+    registers::ADDRESSES,
     sample::{self, Random},
 };
 
@@ -29,8 +30,8 @@ fn place(length: usize, r: &mut Random) -> usize {
 /// A command with another operand.
 fn other(mut c: Command, r: &mut Random) -> Command {
     match c.kind {
-        1 => c.a = r.pick(&ADDRESSES).into(),
-        2 if r.one_in(8) => c.a = r.pick(&ADDRESSES).into(),
+        1 => c.a = r.pick(&ADDRESSES),
+        2 if r.one_in(8) => c.a = r.pick(&ADDRESSES),
         2 if r.bit() => c.b ^= 1 << r.below(8),
         2 => c.b = r.byte().into(),
         3 => c.a = (c.a + r.pick(&[1, 2, 16, 32, 320, 0])).saturating_sub(r.pick(&[0, 1, 16, 32])),

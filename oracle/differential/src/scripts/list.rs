@@ -13,7 +13,11 @@ use crate::{
     compare::Start,
     layout::{HALF, Words, encode},
 };
-use model::{Command, RECORD, bytes, line, sample::Random};
+use model::{
+    Command, RECORD, bytes, line,
+    registers::{RDR, SCR, SMR, SPCR, SSR, TDR},
+    sample::Random,
+};
 use std::fmt::Write;
 
 /// What the log holds before a run.
@@ -34,18 +38,18 @@ fn call(kind: u32, a: u32, b: u32) -> Command {
 fn work() -> Vec<Command> {
     vec![
         call(6, 3, 0),
-        call(2, 0xff91, 0x10),
-        call(2, 0xff98, 0x20),
-        call(2, 0xff9a, 0xf0),
+        call(2, SPCR, 0x10),
+        call(2, SMR, 0x20),
+        call(2, SCR, 0xf0),
         call(3, 400, 0),
-        call(2, 0xff9b, 0x35),
+        call(2, TDR, 0x35),
         call(4, 0, 0),
         call(3, 200, 0),
-        call(1, 0xff9c, 0),
+        call(1, SSR, 0),
         call(7, 0, 0),
         call(5, 0, 1),
         call(3, 600, 0),
-        call(1, 0xff9d, 0),
+        call(1, RDR, 0),
     ]
 }
 

@@ -6,7 +6,11 @@ use crate::{
     lists::{self, PROFILES},
     states,
 };
-use model::{ADDRESSES, Command, RECORD, sample::Random};
+use model::{
+    Command, RECORD,
+    registers::{ADDRESSES, BESIDE, IRCR, SCR, SEMR, SMR, SPCR},
+    sample::Random,
+};
 
 /// A number in shortest form.
 pub fn put_number(bytes: &mut Vec<u8>, mut value: u32) {
@@ -104,12 +108,12 @@ fn storm(r: &mut Random) -> Vec<Command> {
     for _ in 0..20 + r.below(60) {
         let value = u32::from(r.byte());
         all.push(match r.below(12) {
-            0 => call(2, 0xff91, value),
-            1 | 2 => call(2, 0xff98, value),
-            3 => call(2, 0xffa6, value),
-            4 | 5 => call(2, 0xff9a, value & r.pick(&[0xff, 0xfd, 0xfd])),
-            6 => call(2, r.pick(&ADDRESSES).into(), value & 0x7f),
-            7 | 8 => call(1, r.pick(&ADDRESSES).into(), 0),
+            0 => call(2, SPCR, value),
+            1 | 2 => call(2, SMR, value),
+            3 => call(2, SEMR, value),
+            4 | 5 => call(2, SCR, value & r.pick(&[0xff, 0xfd, 0xfd])),
+            6 => call(2, r.pick(&ADDRESSES), value & 0x7f),
+            7 | 8 => call(1, r.pick(&ADDRESSES), 0),
             9 => call(r.pick(&[4, 5]), r.below(2), r.below(2)),
             _ => call(3, r.pick(&[0, 1, 2, 15, 16, 17, 32, 33]), 0),
         });
@@ -298,12 +302,11 @@ pub fn damaged(script: &Script, damage: usize, r: &mut Random) -> Vec<u8> {
             bytes = script.with(at, &spoilt(c, 1 + which, |_| shortest(above)));
         }
         12 => {
-            let near = [0, 0xff90, 0xff92, 0xff97, 0xff9e, 0xffa5, 0xffa8, 0xffff];
             let c = Command {
                 kind: if r.bit() { 1 } else { 2 },
                 a: match r.below(3) {
                     0 => r.below(0x1_0000),
-                    _ => r.pick(&near),
+                    _ => r.pick(&BESIDE),
                 },
                 // Row 2 is tested before row 1.
                 b: r.pick(&[0, 255, 256]),
@@ -315,7 +318,7 @@ pub fn damaged(script: &Script, damage: usize, r: &mut Random) -> Vec<u8> {
             let value = r.pick(&[0x80, 0xff, any, 0x180]);
             let c = Command {
                 kind: 2,
-                a: 0xffa7,
+                a: IRCR,
                 b: value,
             };
             bytes = script.with(at, &Script::of(&[c]).bytes);
