@@ -5,7 +5,9 @@ use crate::{
     tools::{after, end, end_line, ends, sender, shows},
 };
 use model::{
-    LIMIT, Oracle, Rx, State, Tx, bytes, format, play,
+    LIMIT, Oracle, Rx, State, Tx, bytes,
+    document::{PRINTOUT, RUN, WORDS},
+    format, play,
     registers::{SCR, SMR, TDR},
 };
 
@@ -29,16 +31,7 @@ pub fn all() -> Vec<Part> {
 
 /// The seven words, each taken from the sender that has loaded it.
 fn words() -> Vec<Part> {
-    let cases: [(u8, u8, u16); 7] = [
-        (0x00, 0x55, 0x2aa),
-        (0x20, 0x01, 0x602),
-        (0x30, 0x01, 0x402),
-        (0x24, 0xff, 0x7e),
-        (0x64, 0xff, 0xfe),
-        (0x48, 0x80, 0x300),
-        (0x80, 0xa5, 0xa5),
-    ];
-    cases
+    WORDS
         .map(|(smr, value, word)| {
             let mut port = Oracle::fresh();
             port.call(6, 3, 0);
@@ -149,14 +142,7 @@ fn refusals() -> Vec<Part> {
         ..fresh
     };
     let tenth = State {
-        rx: Some(Rx {
-            format: format(0x20, 0),
-            value: 0,
-            position: 10,
-            parity: false,
-            error: 0,
-            next: Some(1),
-        }),
+        rx: Some(Rx::at(10, format(0x20, 0))),
         ..fresh
     };
     let on = |state: &State, script: &str| end(&mut Oracle::from_state(state), script);
@@ -236,13 +222,9 @@ fn registers() -> Vec<Part> {
 
 /// The printed run, whole.
 fn printed_run() -> Part {
-    let script = "06 03 02 91 FF 03 10 02 9A FF 03 20 02 9B FF 03 55 03 E0 02 01 9C FF 03";
-    let expected = "6 00 84 - 0\n2 00 84 1 0\n2 00 84 1 0\n2 00 00 1 0\n3 00 80 0 0\n\
-                    1 80 80 0 0\nend 352";
-    let met = match crate::printed(&bytes(script)) {
-        Ok((lines, _)) => lines,
+    let met = match crate::printed(&bytes(RUN)) {
+        Ok((lines, _)) => lines.replace('\n', " / "),
         Err(fault) => fault.to_string(),
     };
-    let flat = |text: &str| text.replace('\n', " / ");
-    Part::new(script, flat(expected), flat(&met))
+    Part::new(RUN, PRINTOUT.join(" / "), met)
 }

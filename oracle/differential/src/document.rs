@@ -2,7 +2,9 @@
 //! the document prints.
 use crate::port::Port;
 use model::{
-    Answer, Command, LIMIT, Rx, State, Tx, bytes, decode, format,
+    Answer, Command, LIMIT, Rx, State, Tx, bytes, decode,
+    document::{PRINTOUT, RUN, WORDS},
+    format,
     registers::{SCR, SMR, TDR},
 };
 
@@ -84,20 +86,11 @@ pub fn all(port: &mut dyn Port) -> Vec<Part> {
     };
 
     // The seven words, each taken from the sender that has loaded it.
-    let words: [(u32, u32, u16); 7] = [
-        (0x00, 0x55, 0x2aa),
-        (0x20, 0x01, 0x602),
-        (0x30, 0x01, 0x402),
-        (0x24, 0xff, 0x7e),
-        (0x64, 0xff, 0xfe),
-        (0x48, 0x80, 0x300),
-        (0x80, 0xa5, 0xa5),
-    ];
-    for (smr, value, word) in words {
+    for (smr, value, word) in WORDS {
         part(
             format!("SMR {smr:02X}, value {value:02X}"),
             format!("word {word:X}"),
-            sent_word(port, smr, value),
+            sent_word(port, smr.into(), value.into()),
         );
     }
 
@@ -176,8 +169,7 @@ pub fn all(port: &mut dyn Port) -> Vec<Part> {
     }
     part(
         "the printed run".into(),
-        "6 00 84 - 0 / 2 00 84 1 0 / 2 00 84 1 0 / 2 00 00 1 0 / 3 00 80 0 0 / 1 80 80 0 0 / end 352"
-            .into(),
+        PRINTOUT.join(" / "),
         printed_run(port),
     );
     parts
@@ -216,14 +208,7 @@ fn refusals(fresh: State) -> Vec<Refusal> {
     let external = |half| at(half).map(|s| State { scr: 2, ..s });
     let receiving = |smr, position| {
         Some(State {
-            rx: Some(Rx {
-                format: format(smr, 0),
-                value: 0,
-                position,
-                parity: false,
-                error: 0,
-                next: Some(1),
-            }),
+            rx: Some(Rx::at(position, format(smr, 0))),
             ..fresh
         })
     };
@@ -427,9 +412,8 @@ fn registers() -> Vec<Fact> {
 /// The printed run: each record, and the half count at its end.
 fn printed_run(port: &mut dyn Port) -> Result<String> {
     port.fresh();
-    let script = "06 03 02 91 FF 03 10 02 9A FF 03 20 02 9B FF 03 55 03 E0 02 01 9C FF 03";
     let mut lines = Vec::new();
-    for c in calls(script) {
+    for c in calls(RUN) {
         let Answer::Done(answer) = port.call(c)? else {
             return Err(format!("kind {} is refused", c.kind));
         };

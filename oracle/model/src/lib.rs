@@ -1,6 +1,7 @@
 //! Document 01 around the reference. The reference has the port; what is
 //! added here is written from document 01 alone: the field test, the
 //! refusals, the direct calls over time, the script player and its lines.
+pub mod document;
 mod field_test;
 mod frame;
 mod oracle;

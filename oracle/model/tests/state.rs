@@ -53,14 +53,7 @@ fn failing() -> Vec<(&'static str, State)> {
         format: clocked,
         word: 0x55,
     };
-    let rx = Rx {
-        format: eight,
-        value: 0,
-        position: 0,
-        parity: false,
-        error: 0,
-        next: Some(1),
-    };
+    let rx = Rx::at(0, eight);
     let tx = |tx| State {
         tx: Some(tx),
         ..fresh

@@ -54,6 +54,20 @@ pub struct Rx {
     pub next: Option<u32>,
 }
 
+impl Rx {
+    /// Nothing but zeros taken so far, and due at the first half.
+    pub fn at(position: i8, format: Format) -> Self {
+        Self {
+            format,
+            value: 0,
+            position,
+            parity: false,
+            error: 0,
+            next: Some(1),
+        }
+    }
+}
+
 #[derive(Clone, Copy, Debug, PartialEq, Eq, Hash)]
 pub struct State {
     pub spcr: u8,

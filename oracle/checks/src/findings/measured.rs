@@ -146,14 +146,7 @@ pub fn field_test(size: u32) -> Vec<Part> {
 fn stricter() -> Vec<(&'static str, State)> {
     let fresh = Oracle::fresh().state();
     let eight = format(0, 0);
-    let rx = Rx {
-        format: eight,
-        value: 0,
-        position: 0,
-        parity: false,
-        error: 0,
-        next: Some(1),
-    };
+    let rx = Rx::at(0, eight);
     let blocked = Tx::Blocked {
         character: Character {
             format: eight,

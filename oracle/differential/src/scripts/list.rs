@@ -14,7 +14,7 @@ use crate::{
     layout::{HALF, Words, encode},
 };
 use model::{
-    Command, RECORD, bytes, line,
+    Command, RECORD, bytes, document, line,
     registers::{RDR, SCR, SMR, SPCR, SSR, TDR},
     sample::Random,
 };
@@ -228,7 +228,7 @@ pub fn items() -> Vec<Item> {
         add(10, &script);
     }
     // Document 01's printed run, cut everywhere, in each length of log.
-    let printed = bytes("06 03 02 91 FF 03 10 02 9A FF 03 20 02 9B FF 03 55 03 E0 02 01 9C FF 03");
+    let printed = bytes(document::RUN);
     for length in 0..=printed.len() {
         add(LOG, &printed[..length]);
         add(30, &printed[..length]);
