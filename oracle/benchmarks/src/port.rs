@@ -1,5 +1,5 @@
-//! The reference as its board drives it, or stepped half by half. Nothing is
-//! tested on the way, as `model::Oracle` does it: what is measured is the
+//! The reference as its board drives it, or stepped half by half. Unlike
+//! `model::Oracle` it tests nothing on the way: what is measured is the
 //! reference. That it ends where the oracle ends is compared outside.
 use model::{Command, Setup, State, registers::SSR};
 use reference::{Clocks, Error, Frequencies, Sci, Time};
@@ -54,7 +54,9 @@ impl Reference {
         self.sci.oracle_counting()
     }
 
-    /// A call that nothing refuses, and the value read, else 0.
+    /// A call that nothing refuses, and the value read, else 0. `model::Oracle`
+    /// makes the same calls of the reference, with its tests between them; they
+    /// stand here again because nothing else may be timed.
     #[inline]
     pub fn call(&mut self, Command { kind, a, b }: Command) -> Result<u8, Error> {
         let (now, clocks) = (self.now, &self.clocks);
