@@ -1,5 +1,6 @@
 //! The reference's players: the one that does what `sci3_play` does, from a
-//! script's bytes to the log, and a bare one over commands read beforehand.
+//! script's bytes to the log; a bare one over commands read beforehand; and
+//! the calls alone.
 use crate::port::Reference;
 use model::{Command, LIMIT, RECORD, decode, registers::IRCR};
 use reference::Sci;

@@ -1,5 +1,6 @@
 //! What the cases are made of: the commands that bring a port to work, and
-//! those of one round, which is a word, a wait, or one call of each register.
+//! those of one round, which is a word, a wait, one call of each register, or
+//! a list of the differential runs.
 use differential::lists::{PROFILES, of_profile};
 use model::{
     Command,

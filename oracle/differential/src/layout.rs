@@ -28,8 +28,8 @@ pub const MOST: Words = {
 /// The place of the half count.
 pub const HALF: usize = 14;
 
-/// The places of a sender and of a receiver that a state without one leaves
-/// unused, and of the holding place.
+/// Where the holding place, the sender, the receiver, the lines and the next
+/// clocked edge begin.
 const HOLDING: usize = 17;
 const SENDER: usize = 19;
 const RECEIVER: usize = 31;

@@ -1,7 +1,7 @@
 //! The oracle and the proved port, compared call by call. Each call is made on
 //! both; then the answer, every field of the state, the transmit level, the
-//! clock drive and the interrupt request must be the same. `scripts` does so
-//! with whole scripts.
+//! clock drive, the receive enable and the interrupt request must be the same.
+//! `scripts` compares whole scripts, and `fuzz` plays arbitrary bytes.
 pub mod alter;
 #[cfg(feature = "capi")]
 pub mod capi;

@@ -9,7 +9,8 @@ use model::{
 /// Adds the calls of one list.
 pub type Profile = fn(&mut List);
 
-/// The profiles, in no order that matters.
+/// The profiles. Their order is part of what a seed gives, and with it of the
+/// replay list; the benchmarks leave out the last.
 pub const PROFILES: [(&str, Profile); 11] = [
     ("uniform", uniform),
     ("anything", anything),
@@ -157,7 +158,6 @@ impl List {
         }
         for cell in 0..cells {
             self.line((bits >> cell & 1 != 0) != turned);
-            // Cells that go on at the same level pass in one call or two.
             self.pass(length);
         }
         if bits >> (cells - 1) & 1 == 0 && !self.r.one_in(4) {

@@ -1,6 +1,6 @@
 //! Formats and words, from document 01's "Frame": the manual's cells in the
-//! order they go out. Used by the field test only, so that the test does not
-//! lean on the code it guards.
+//! order they go out. The reference's own are not used, so that the field test
+//! does not lean on the code it guards.
 use reference::Format;
 
 /// The format that SMR and SEMR give.

@@ -1,6 +1,6 @@
 //! Compares the oracle and the proved port. With no option: the gate, which
-//! is document 01's cases, the alterations, and all families with a fixed
-//! seed and asserted coverage. The last line is the summary.
+//! is document 01's cases, the arrays, the alterations, and all families with
+//! a fixed seed and asserted coverage. The last line is the summary.
 use differential::{
     OraclePort, Port,
     alter::ALTERATIONS,
@@ -28,7 +28,7 @@ runner [OPTIONS]       with no option: the gate
   --side capi|oracle   what stands beside the reference; oracle tries the
                        runner itself and compares no port";
 
-/// Calls of the gate: with the two other parts about two minutes.
+/// Calls of the gate: with the other parts about two minutes.
 const GATE_CALLS: u64 = 24_000_000;
 const GATE_SEED: u64 = 0x5c13_0000;
 /// Coverage is asserted from so many calls on, when all families run.
