@@ -1,11 +1,8 @@
 //! The cases: where each begins, its script, and the ratios it is to reach.
 //! All is fixed, so that two runs measure the same.
 use crate::rounds;
-use differential::scripts::{
-    make::Script,
-    player::{LOG, SCRIPT},
-};
-use model::{Answer, Command, Oracle, RECORD, State, sample::Random};
+use differential::scripts::make::Script;
+use model::{Answer, Command, LOG, Oracle, RECORD, SCRIPT, State, sample::Random};
 
 /// What a figure is given for.
 #[derive(Clone, Copy, Debug, PartialEq, Eq)]

@@ -4,7 +4,7 @@ use crate::{
     play,
     port::{Pace, Reference},
 };
-use model::{Oracle, RECORD};
+use model::{LOG, Oracle, RECORD};
 use std::io::{Read, Write};
 
 /// The reference's program: standard input to standard output.
@@ -13,7 +13,7 @@ pub fn main(pace: Pace) -> Result<(), String> {
     let text = |e: std::io::Error| e.to_string();
     std::io::stdin().read_to_end(&mut script).map_err(text)?;
     let mut port = Reference::at(&Oracle::fresh().state(), pace);
-    let mut log = vec![0; 40_960];
+    let mut log = vec![0; LOG];
     let written = play::script(&mut port, &script, &mut log)?;
     let mut lines = printed(&log[..written]);
     lines.extend(format!("end {}\n", port.half()).bytes());

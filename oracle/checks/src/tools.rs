@@ -1,5 +1,5 @@
 //! Inputs and how their results are put into words.
-use model::{End, Oracle, RECORD, Run, Setup, State, Tx, bytes, line, play};
+use model::{End, LOG, Oracle, RECORD, Run, Setup, State, Tx, bytes, line, play};
 
 /// One input, the result the paper gives for it, and the result met.
 #[derive(Clone, Debug)]
@@ -28,13 +28,13 @@ impl Part {
 
 /// Play a script with a log that suffices.
 pub fn run(oracle: &mut Oracle, script: &str) -> Result<Run, model::Fault> {
-    play(oracle, &bytes(script), &mut [0; 40_960])
+    play(oracle, &bytes(script), &mut [0; LOG])
 }
 
 /// A script from a fresh port as the program prints it, and the port.
 pub fn printed(script: &[u8]) -> Result<(String, Oracle), model::Fault> {
     let mut oracle = Oracle::fresh();
-    let mut log = [0; 40_960];
+    let mut log = [0; LOG];
     let run = play(&mut oracle, script, &mut log)?;
     let records = log.chunks_exact(RECORD).take(run.records);
     let mut lines: Vec<String> = records.map(line).collect();

@@ -9,11 +9,11 @@ use differential::{
         coverage::Coverage,
         list::{self, fnv},
         make,
-        player::{LOG, Played, Player, SCRIPT, first_words},
+        player::{Played, Player, first_words},
         run::{Ground, Part, Walk, gate, report, run, self_test, trial},
     },
 };
-use model::{RECORD, bytes};
+use model::{LOG, RECORD, SCRIPT, bytes};
 use std::collections::HashSet;
 
 const SEED: u64 = 1;

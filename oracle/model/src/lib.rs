@@ -15,4 +15,4 @@ pub use frame::{cells, format, stop, word};
 pub use oracle::{Answer, ClockDrive, Fault, Habits, Oracle, Pass, SECOND, Setup};
 pub use reference::{Character, Format, Rx, State, Tx};
 pub use rules::{counting, refusal};
-pub use script::{Command, Decoded, End, RECORD, Run, bytes, decode, line, play};
+pub use script::{Command, Decoded, End, LOG, RECORD, Run, SCRIPT, bytes, decode, line, play};

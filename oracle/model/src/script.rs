@@ -6,6 +6,10 @@ use crate::rules::{late_refusal, ranges};
 
 /// Log bytes of one record.
 pub const RECORD: usize = 5;
+/// The longest script that the program reads.
+pub const SCRIPT: usize = 16_384;
+/// The log that the program lends.
+pub const LOG: usize = 40_960;
 
 #[derive(Clone, Copy, Debug, PartialEq, Eq)]
 pub struct Command {

@@ -1,9 +1,6 @@
 //! Findings 1 and 2: open in document 01.
 use crate::Part;
-use model::{LIMIT, Oracle, bytes, decode, field_test, line, play};
-
-/// The longest input that the program takes.
-const INPUT: usize = 16_384;
+use model::{LIMIT, Oracle, SCRIPT, bytes, decode, field_test, line, play};
 
 /// 1: neither 4 nor 8 can come from the program.
 pub fn printable() -> Vec<Part> {
@@ -12,7 +9,7 @@ pub fn printable() -> Vec<Part> {
         Err(clause) => format!("fresh port fails 8: {clause}"),
     };
     let mut script = bytes("06 03");
-    while script.len() + 4 <= INPUT {
+    while script.len() + 4 <= SCRIPT {
         script.extend(bytes("03 FF FF 03"));
     }
     let (mut at, mut commands, mut halves) = (2, 0, 0);

@@ -19,11 +19,8 @@
 //! ```
 //!
 //! Numbers of several bytes have their low byte first.
-use crate::{
-    layout::{LENGTH, Words},
-    scripts::player::LOG,
-};
-use model::{RECORD, decode};
+use crate::layout::{LENGTH, Words};
+use model::{LOG, RECORD, decode};
 
 const EARLIER: u8 = 1;
 const NEAR: u8 = 2;

@@ -1,10 +1,10 @@
 //! One script on the oracle and on a player, and the first thing that differs.
-use super::player::{Case, LOG, Played, Player, first_words, reference};
+use super::player::{Case, Played, Player, first_words, reference};
 use crate::{
     compare::{Start, state_fields},
     layout::{HALF, LENGTH, Words, decode, encode},
 };
-use model::{RECORD, State, line};
+use model::{LOG, RECORD, State, line};
 use std::fmt;
 
 /// Bytes on both sides of a lent log, which are nobody's to write.

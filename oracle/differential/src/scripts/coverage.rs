@@ -3,10 +3,9 @@
 use super::{
     compare::Same,
     make::{DAMAGES, MADE, Origin, STARTS, profile_name},
-    player::{LOG, SCRIPT},
 };
 use crate::{compare::Start, states::BREAKS};
-use model::{LIMIT, RECORD, Tx, counting};
+use model::{LIMIT, LOG, RECORD, SCRIPT, Tx, counting};
 
 /// The numbers of the table's commands, in order; document 01's operands.
 const NUMBERS: [&str; 9] = [

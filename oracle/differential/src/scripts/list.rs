@@ -7,14 +7,14 @@
 //! line, and `=` with the sum of log and state; at the end the number of cases.
 use super::{
     make::{self, BYTES, DAMAGES, MADE, Script},
-    player::{LOG, Played, SCRIPT, reference},
+    player::{Played, reference},
 };
 use crate::{
     compare::Start,
     layout::{HALF, Words, encode},
 };
 use model::{
-    Command, RECORD, bytes, document, line,
+    Command, LOG, RECORD, SCRIPT, bytes, document, line,
     registers::{RDR, SCR, SMR, SPCR, SSR, TDR},
     sample::Random,
 };

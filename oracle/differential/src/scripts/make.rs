@@ -1,13 +1,13 @@
 //! Scripts, by seed: lists of calls written as bytes, damaged or not, and the
 //! log lengths that are tried with them.
-use super::player::{Case, LOG, SCRIPT, reference};
+use super::player::{Case, reference};
 use crate::{
     compare::Start,
     lists::{self, PROFILES},
     states,
 };
 use model::{
-    Command, RECORD,
+    Command, LOG, RECORD, SCRIPT,
     registers::{ADDRESSES, BESIDE, IRCR, SCR, SEMR, SMR, SPCR},
     sample::Random,
 };

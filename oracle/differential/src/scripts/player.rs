@@ -6,11 +6,6 @@ use crate::{
 };
 use model::{End, Oracle, RECORD, State};
 
-/// The longest script that the program reads.
-pub const SCRIPT: usize = 16_384;
-/// The log that the program lends.
-pub const LOG: usize = 40_960;
-
 /// A script, where it begins, and the length of its log.
 #[derive(Clone, Debug)]
 pub struct Case {

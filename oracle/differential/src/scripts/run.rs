@@ -4,11 +4,11 @@ use super::{
     compare::{Difference, Table},
     coverage::Coverage,
     make::{self, Origin},
-    player::{Case, LOG, Player, SCRIPT, reference},
+    player::{Case, Player, reference},
     shrink::shrink,
 };
 use crate::{compare::Start, port::OraclePort};
-use model::{RECORD, bytes};
+use model::{LOG, RECORD, SCRIPT, bytes};
 use std::{
     sync::{
         Mutex,
