@@ -3,7 +3,7 @@
 //! a list of the differential runs.
 use differential::lists::{PROFILES, of_profile};
 use model::{
-    Command,
+    Command, Oracle, refusal,
     registers::{ADDRESSES, IRCR, RDR, SCR, SEMR, SMR, SPCR, TDR},
     sample::Random,
 };
@@ -163,18 +163,8 @@ pub fn writes(r: &mut Random, out: &mut Vec<Command>) {
 pub fn mixed(r: &mut Random, out: &mut Vec<Command>) {
     let profile = r.below(PROFILES.len() as u32 - 1) as usize;
     let list = of_profile(profile, r.below(u32::MAX).into());
-    out.extend(list.into_iter().filter(|c| model_accepts(*c)));
-}
-/// The profiles hold a few calls that are refused wherever they stand.
-fn model_accepts(c: Command) -> bool {
-    let address = ADDRESSES.contains(&c.a);
-    match c.kind {
-        1 => address,
-        2 => address && c.b <= 255 && !(c.a == IRCR && c.b & 0x80 != 0),
-        3 => c.a <= 0xffff,
-        4 => c.a <= 1,
-        5 => c.a <= 1 && c.b <= 1,
-        6 => c.a <= 15,
-        _ => c.kind == 7,
-    }
+    // The profiles hold a few calls that are refused wherever they stand.
+    let fresh = Oracle::fresh().state();
+    let refused = |c: &Command| refusal(&fresh, c.kind, c.a, c.b).is_some();
+    out.extend(list.into_iter().filter(|c| !refused(c)));
 }

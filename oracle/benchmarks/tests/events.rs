@@ -6,7 +6,7 @@
 //! it is the next event. Benchmarks must not go there.
 use benchmarks::port::{Pace, Reference};
 use differential::lists;
-use model::{Command, Oracle, State, bytes, decode, refusal};
+use model::{Command, Oracle, State, bytes, commands, refusal};
 
 fn begun(pace: Pace) -> Reference {
     Reference::at(&Oracle::fresh().state(), pace)
@@ -56,11 +56,8 @@ fn smallest() {
     let script = bytes("06 03 02 98 FF 03 80 01 02 9A FF 03 10 04 00 03 1E 02 98 FF 03 00 03 12");
     let armed = |pace| {
         let mut port = begun(pace);
-        let mut at = 0;
-        while at < script.len() {
-            let (c, next) = decode(&script, at).expect("a command");
+        for c in commands(&script).0 {
             port.call(c).expect("no error");
-            at = next;
         }
         let rx = port.state().expect("a state of document 01").rx;
         rx.map(|rx| (rx.position, rx.next))

@@ -2,7 +2,7 @@
 //! the document prints.
 use crate::port::Port;
 use model::{
-    Answer, Command, LIMIT, Rx, State, Tx, bytes, decode,
+    Answer, Command, LIMIT, Rx, State, Tx, bytes, commands,
     document::{PRINTOUT, RUN, WORDS},
     format,
     registers::{SCR, SMR, TDR},
@@ -26,13 +26,8 @@ type Result<T> = std::result::Result<T, String>;
 /// A script of the papers as calls.
 fn calls(script: &str) -> Vec<Command> {
     let script = bytes(script);
-    let mut at = 0;
-    let mut calls = Vec::new();
-    while at < script.len() {
-        let (call, next) = decode(&script, at).expect("the scripts here can be read");
-        calls.push(call);
-        at = next;
-    }
+    let (calls, end) = commands(&script);
+    assert_eq!(end, script.len(), "the scripts here can be read");
     calls
 }
 

@@ -14,5 +14,7 @@ pub use field_test::{LIMIT, failed_clauses, field_test};
 pub use frame::{cells, format, stop, word};
 pub use oracle::{Answer, ClockDrive, Fault, Habits, Oracle, Pass, SECOND, Setup};
 pub use reference::{Character, Format, Rx, State, Tx};
-pub use rules::{counting, refusal};
-pub use script::{Command, Decoded, End, LOG, RECORD, Run, SCRIPT, bytes, decode, line, play};
+pub use rules::{counting, external, ranges, refusal, running};
+pub use script::{
+    Command, Decoded, End, LOG, RECORD, Run, SCRIPT, bytes, commands, decode, line, play,
+};

@@ -5,11 +5,11 @@ use crate::registers::{ADDRESSES, IRCR};
 use reference::State;
 
 /// Whether the port runs at all, on whichever clock.
-fn running(s: &State) -> bool {
+pub fn running(s: &State) -> bool {
     s.module && !s.reset_mode && (s.main || (s.sub && s.smr & 3 == 1))
 }
 
-fn external(s: &State) -> bool {
+pub fn external(s: &State) -> bool {
     s.scr & 2 != 0
 }
 
@@ -19,7 +19,7 @@ pub fn counting(s: &State) -> bool {
 }
 
 /// The greatest value of each operand of a kind.
-pub(crate) fn ranges(kind: u32) -> Option<&'static [u32]> {
+pub fn ranges(kind: u32) -> Option<&'static [u32]> {
     Some(match kind {
         1 => &[0xffff],
         2 => &[0xffff, 255],

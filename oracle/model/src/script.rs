@@ -72,6 +72,16 @@ pub fn decode(script: &[u8], mut at: usize) -> Decoded {
     Ok((Command { kind, a, b }, at))
 }
 
+/// What can be read of a script, and where that ends.
+pub fn commands(script: &[u8]) -> (Vec<Command>, usize) {
+    let (mut commands, mut at) = (Vec::new(), 0);
+    while let Ok((command, next)) = decode(script, at) {
+        commands.push(command);
+        at = next;
+    }
+    (commands, at)
+}
+
 /// Play a script. The log keeps the records of the commands before a refusal.
 pub fn play(oracle: &mut Oracle, script: &[u8], log: &mut [u8]) -> Result<Run, Fault> {
     let mut state = oracle.try_state()?;

@@ -3,7 +3,7 @@ use crate::{
     Part,
     tools::{end, end_line, run, setup},
 };
-use model::{Fault, Habits, Oracle, SECOND, Setup, bytes, decode};
+use model::{Fault, Habits, Oracle, SECOND, Setup, bytes, commands};
 
 /// 3: a change of clock misses a half where two clocks' tick counts meet.
 pub fn cached_edge() -> Vec<Part> {
@@ -62,11 +62,7 @@ pub fn log_overflow() -> Vec<Part> {
     // The drained port counts the changes up to the same half.
     let mut drained = Oracle::fresh();
     let stopped = undrained.state().half;
-    let commands = bytes(&script);
-    let mut at = 0;
-    while at < commands.len() {
-        let (command, next) = decode(&commands, at).expect("the script is whole");
-        at = next;
+    for command in commands(&bytes(&script)).0 {
         if command.kind == 3 {
             for _ in 0..command.a {
                 if drained.state().half < stopped {

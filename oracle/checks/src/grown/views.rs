@@ -1,17 +1,12 @@
 //! The terms that the rows are written in.
 use model::{State, Tx};
+pub use model::{external, running};
 
 pub fn te(s: &State) -> bool {
     s.scr & 0x20 != 0
 }
 pub fn re(s: &State) -> bool {
     s.scr & 0x10 != 0
-}
-pub fn external(s: &State) -> bool {
-    s.scr & 2 != 0
-}
-pub fn running(s: &State) -> bool {
-    s.module && !s.reset_mode && (s.main || (s.sub && s.smr & 3 == 1))
 }
 pub fn clocked(s: &State) -> bool {
     s.smr & 0x80 != 0

@@ -8,20 +8,10 @@ use crate::{
     scripts::make::Script,
 };
 use model::{
-    Command, decode,
+    Command, commands,
     registers::ADDRESSES,
     sample::{self, Random},
 };
-
-/// What can be read of a script, and the bytes behind it.
-fn commands(script: &[u8]) -> (Vec<Command>, &[u8]) {
-    let (mut commands, mut at) = (Vec::new(), 0);
-    while let Ok((command, next)) = decode(script, at) {
-        commands.push(command);
-        at = next;
-    }
-    (commands, &script[at..])
-}
 
 fn place(length: usize, r: &mut Random) -> usize {
     r.below(length as u32) as usize
@@ -45,7 +35,7 @@ fn other(mut c: Command, r: &mut Random) -> Command {
 }
 
 fn changed(script: &[u8], r: &mut Random) -> Vec<u8> {
-    let (mut all, rest) = commands(script);
+    let (mut all, read) = commands(script);
     let at = place(all.len() + 1, r);
     let here = all.get(at).copied();
     match (r.below(12), here) {
@@ -84,7 +74,7 @@ fn changed(script: &[u8], r: &mut Random) -> Vec<u8> {
         _ => all.insert(at, sample::call(r)),
     }
     let mut bytes = Script::of(&all).bytes;
-    bytes.extend_from_slice(rest);
+    bytes.extend_from_slice(&script[read..]);
     bytes
 }
 

@@ -17,7 +17,7 @@ use crate::{
     },
     states::moved,
 };
-use model::{Command, LIMIT, decode, field_test};
+use model::{Command, LIMIT, commands, field_test};
 
 /// What stands beside the oracle: a player, and direct calls.
 pub struct Side {
@@ -158,12 +158,7 @@ impl Fuzz {
     /// request after each. A script has no operands above their ranges, so
     /// nine bytes behind it are one more call: kind and two operands.
     fn calls(&mut self, case: Case) -> Result<(), String> {
-        let mut calls = Vec::new();
-        let mut at = 0;
-        while let Ok((call, next)) = decode(&case.script, at) {
-            calls.push(call);
-            at = next;
-        }
+        let (mut calls, at) = commands(&case.script);
         if let Some((kind, operands)) = case.script[at..].split_first()
             && let Some((a, operands)) = operands.split_first_chunk()
             && let Some((b, _)) = operands.split_first_chunk()

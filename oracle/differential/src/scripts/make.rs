@@ -7,7 +7,7 @@ use crate::{
     states,
 };
 use model::{
-    Command, LOG, RECORD, SCRIPT,
+    Command, LOG, RECORD, SCRIPT, ranges,
     registers::{ADDRESSES, BESIDE, IRCR, SCR, SEMR, SMR, SPCR},
     sample::Random,
 };
@@ -28,18 +28,6 @@ fn numbers(c: Command) -> Vec<u32> {
         2 | 5 => vec![c.kind, c.a, c.b],
         7 => vec![7],
         _ => vec![c.kind, c.a],
-    }
-}
-
-/// The greatest value of each operand of a kind.
-fn most(kind: u32) -> &'static [u32] {
-    match kind {
-        1 | 3 => &[0xffff],
-        2 => &[0xffff, 255],
-        4 => &[1],
-        5 => &[1, 1],
-        6 => &[15],
-        _ => &[],
     }
 }
 
@@ -289,7 +277,7 @@ pub fn damaged(script: &Script, damage: usize, r: &mut Random) -> Vec<u8> {
             bytes = script.with(at, &spoilt(c, 0, |_| shortest(kind)));
         }
         11 => {
-            let most = most(c.kind);
+            let most = ranges(c.kind).unwrap_or_default();
             if most.is_empty() {
                 return bytes;
             }
