@@ -2,7 +2,7 @@
 //! `layout`; an answer below 256 is an accepted call's, and 256 more than a
 //! refusal's number is that refusal.
 use crate::{
-    layout::{LENGTH, MOST, Words, decode, encode},
+    layout::{LENGTH, MOST, Words, decode, encode, read, within},
     port::{Pins, Port},
 };
 use model::{Answer, ClockDrive, Command, State};
@@ -163,10 +163,7 @@ pub fn unused(states: &[(State, Command)]) -> (u64, Vec<String>) {
             let mut words = plain;
             words[place] = MOST[place];
             // In use, if another number there is another state.
-            let used = match loose(&words) {
-                Some(other) => other != *state,
-                None => true,
-            };
+            let used = within(&words).is_none_or(|words| read(&words) != *state);
             if used || words == plain {
                 continue;
             }
@@ -188,10 +185,4 @@ pub fn unused(states: &[(State, Command)]) -> (u64, Vec<String>) {
         }
     }
     (tried, wrong)
-}
-
-/// The state in an array whose unused places may hold anything.
-fn loose(words: &Words) -> Option<State> {
-    let within = words.iter().zip(MOST).all(|(word, most)| *word <= most);
-    within.then(|| crate::layout::read(words))
 }

@@ -146,6 +146,14 @@ pub fn encode(s: &State) -> Words {
     words
 }
 
+/// The array, if it has a state's length and no number is above its place's
+/// greatest.
+pub fn within(array: &[u64]) -> Option<Words> {
+    let words = Words::try_from(array).ok()?;
+    let fits = words.iter().zip(MOST).all(|(word, most)| *word <= most);
+    fits.then_some(words)
+}
+
 /// The state in an array as the port writes it: no number above its place's
 /// greatest, and 0 in every place not in use.
 pub fn decode(words: &Words) -> Result<State, String> {

@@ -9,7 +9,7 @@ use differential::{
         mutate::mutated,
         play::{Fuzz, proved, wrong},
     },
-    scripts::compare::Same,
+    scripts::{compare::Same, list::fnv},
 };
 use model::{RECORD, sample::Random};
 use std::{
@@ -27,9 +27,7 @@ const COUNTERS: usize = 1 << 16;
 static SHOWN: [AtomicU8; COUNTERS] = [const { AtomicU8::new(0) }; COUNTERS];
 
 fn count(parts: &[u8]) {
-    let sum = parts.iter().fold(0x811c_9dc5_u32, |sum, part| {
-        (sum ^ u32::from(*part)).wrapping_mul(0x0100_0193)
-    });
+    let sum = fnv(parts.iter().copied());
     SHOWN[(sum ^ sum >> 16) as usize % COUNTERS].store(1, Ordering::Relaxed);
 }
 

@@ -6,7 +6,7 @@ use super::{
 use crate::{
     alter::ALTERATIONS,
     compare::{self, Start},
-    layout::{LENGTH, MOST, Words, encode, read},
+    layout::{Words, encode, read, within},
     port::{OraclePort, Port},
     scripts::{
         calls::{CallsPlayer, Wrong},
@@ -190,14 +190,6 @@ impl Fuzz {
             None => Ok(()),
         }
     }
-}
-
-/// The array, if it has a state's length and no number is above its place's
-/// greatest.
-fn within(array: &[u64]) -> Option<Words> {
-    let words = <[u64; LENGTH]>::try_from(array).ok()?;
-    let fits = words.iter().zip(MOST).all(|(word, most)| *word <= most);
-    fits.then_some(words)
 }
 
 /// The script as it was met, and the smallest one found.

@@ -4,7 +4,7 @@
 //! can fail.
 use super::player::{Played, Player};
 use crate::{
-    layout::{MOST, Words, encode, read},
+    layout::{encode, read, within},
     port::Port,
 };
 use model::{Answer, Command};
@@ -370,10 +370,7 @@ fn refused(number: u8, offset: usize, written: usize) -> Played {
 
 impl<P: Port> Player for CallsPlayer<P> {
     fn play(&mut self, state: &mut [u64], script: &[u8], log: &mut [u8]) -> Result<Played, String> {
-        let first = Words::try_from(&*state)
-            .ok()
-            .filter(|words| words.iter().zip(MOST).all(|(word, most)| *word <= most));
-        let Some(first) = first else {
+        let Some(first) = within(state) else {
             return Ok(refused(8, 0, 0));
         };
         self.port.set(&read(&first));

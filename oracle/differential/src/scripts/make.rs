@@ -13,12 +13,18 @@ use model::{
 };
 
 /// A number in shortest form.
-pub fn put_number(bytes: &mut Vec<u8>, mut value: u32) {
+fn put_number(bytes: &mut Vec<u8>, mut value: u32) {
     while value > 0x7f {
         bytes.push(value as u8 | 0x80);
         value >>= 7;
     }
     bytes.push(value as u8);
+}
+
+fn shortest(value: u32) -> Vec<u8> {
+    let mut bytes = Vec::new();
+    put_number(&mut bytes, value);
+    bytes
 }
 
 /// The numbers of a command: kind and operands. A kind that is none of the
@@ -115,7 +121,7 @@ pub fn script(profile: usize, length: usize, exact: bool, r: &mut Random) -> Scr
     let mut script = Script::default();
     'full: loop {
         for c in commands(profile, r) {
-            let size: usize = numbers(c).into_iter().map(size).sum();
+            let size: usize = numbers(c).into_iter().map(|n| shortest(n).len()).sum();
             if script.bytes.len() + size > length {
                 break 'full;
             }
@@ -133,12 +139,6 @@ pub fn script(profile: usize, length: usize, exact: bool, r: &mut Random) -> Scr
         });
     }
     script
-}
-
-fn size(number: u32) -> usize {
-    let mut bytes = Vec::new();
-    put_number(&mut bytes, number);
-    bytes.len()
 }
 
 /// Bytes of any value, and of those that make commands.
@@ -197,8 +197,7 @@ fn place(bytes: &[u8], r: &mut Random) -> usize {
 
 /// A number's bytes, spoilt.
 fn not_shortest(value: u32, r: &mut Random) -> Vec<u8> {
-    let mut bytes = Vec::new();
-    put_number(&mut bytes, value);
+    let mut bytes = shortest(value);
     let zeros = 1 + r.below(4) as usize;
     for _ in 0..zeros {
         if bytes.len() == 5 {
@@ -327,12 +326,6 @@ pub fn damaged(script: &Script, damage: usize, r: &mut Random) -> Vec<u8> {
         }
         _ => {}
     }
-    bytes
-}
-
-fn shortest(value: u32) -> Vec<u8> {
-    let mut bytes = Vec::new();
-    put_number(&mut bytes, value);
     bytes
 }
 
