@@ -2,7 +2,7 @@
 //! `layout`; an answer below 256 is an accepted call's, and 256 more than a
 //! refusal's number is that refusal.
 use crate::{
-    layout::{LENGTH, MOST, Words, decode, encode, read, within},
+    layout::{LENGTH, MOST, Words, decode, encode, no_states, read, within},
     port::{Pins, Port},
 };
 use model::{Answer, ClockDrive, Command, State};
@@ -102,15 +102,15 @@ impl Port for CapiPort {
     }
 }
 
-/// Arrays that are no state: of another length, or with a number above its
-/// place's greatest. Each export refuses them with 8 and changes nothing.
-/// What differs is handed back, and how many arrays were tried.
+/// Arrays that are no state: each export refuses them with 8 and changes
+/// nothing. How many were tried, and what differs.
 pub fn arrays() -> (u64, Vec<String>) {
     let mut wrong = Vec::new();
-    let mut tried = 0;
-    let mut refused = |what: &str, words: &[u64], length_only: bool| {
-        tried += 1;
-        let mut lent = words.to_vec();
+    let mut words = [0; LENGTH];
+    fresh(&mut words);
+    let all = no_states(&words);
+    for (what, array) in &all {
+        let mut lent = array.clone();
         let mut answers: Vec<(&str, u64)> = Vec::new();
         for kind in 1..=7 {
             let c = Command { kind, a: 0, b: 0 };
@@ -118,7 +118,8 @@ pub fn arrays() -> (u64, Vec<String>) {
         }
         answers.push(("sci3_pins", pins(&lent)));
         answers.push(("sci3_interrupt", interrupt(&lent)));
-        if length_only {
+        // It writes all numbers and looks at the length alone.
+        if array.len() != LENGTH {
             answers.push(("sci3_fresh", fresh(&mut lent)));
         }
         for (name, answer) in answers {
@@ -126,30 +127,11 @@ pub fn arrays() -> (u64, Vec<String>) {
                 wrong.push(format!("{what}: {name} answers {answer}, not 264"));
             }
         }
-        if lent != words {
+        if lent != *array {
             wrong.push(format!("{what}: the array is changed"));
         }
-    };
-    let mut fresh_words = [0; LENGTH];
-    fresh(&mut fresh_words);
-    for length in (0..LENGTH).chain(LENGTH + 1..LENGTH + 12) {
-        let mut words = vec![0; length];
-        for (place, word) in words.iter_mut().zip(fresh_words) {
-            *place = word;
-        }
-        refused(&format!("length {length}"), &words, true);
     }
-    for (place, most) in MOST.into_iter().enumerate() {
-        let Some(above) = most.checked_add(1) else {
-            continue;
-        };
-        for number in [above, above | 1 << 40, u64::MAX] {
-            let mut words = fresh_words;
-            words[place] = number;
-            refused(&format!("{number} at place {place}"), &words, false);
-        }
-    }
-    (tried, wrong)
+    (all.len() as u64, wrong)
 }
 
 /// Places not in use are not looked at: with other numbers there every call

@@ -154,6 +154,28 @@ pub fn within(array: &[u64]) -> Option<Words> {
     fits.then_some(words)
 }
 
+/// Arrays that are no state, each with what is wrong with it: this one of
+/// another length, or with a number above its place's greatest.
+pub fn no_states(words: &Words) -> Vec<(String, Vec<u64>)> {
+    let mut all = Vec::new();
+    for length in (0..LENGTH).chain(LENGTH + 1..LENGTH + 12) {
+        let mut array = words.to_vec();
+        array.resize(length, 0);
+        all.push((format!("length {length}"), array));
+    }
+    for (place, most) in MOST.into_iter().enumerate() {
+        let Some(above) = most.checked_add(1) else {
+            continue;
+        };
+        for number in [above, above | 1 << 40, u64::MAX] {
+            let mut array = words.to_vec();
+            array[place] = number;
+            all.push((format!("{number} at place {place}"), array));
+        }
+    }
+    all
+}
+
 /// The state in an array as the port writes it: no number above its place's
 /// greatest, and 0 in every place not in use.
 pub fn decode(words: &Words) -> Result<State, String> {

@@ -5,7 +5,7 @@ use differential::{
     alter::ALTERATIONS,
     compare::{Case, Start, play},
     document,
-    layout::{LENGTH, MOST, decode, encode},
+    layout::{Words, decode, encode, no_states, within},
     lists,
     run::{Family, Plan, Sides, report, run, self_test},
     states,
@@ -118,14 +118,18 @@ fn layout_is_there_and_back() {
 
 #[test]
 fn arrays_that_are_no_state() {
-    let fresh = fresh();
-    for (place, most) in MOST.into_iter().enumerate().take(LENGTH - 2) {
-        let mut words = encode(&fresh);
-        words[place] = most + 1;
-        assert!(decode(&words).is_err(), "place {place}");
+    let mut words = encode(&fresh());
+    assert_eq!(within(&words), Some(words));
+    let all = no_states(&words);
+    // 64 lengths; the two tallies have no number above their greatest.
+    assert_eq!(all.len(), 64 + 3 * 51);
+    for (what, array) in all {
+        assert!(within(&array).is_none(), "{what}");
+        if let Ok(words) = Words::try_from(array) {
+            assert!(decode(&words).is_err(), "{what}");
+        }
     }
     // A held byte where nothing is held.
-    let mut words = encode(&fresh);
     words[18] = 1;
     assert!(decode(&words).is_err());
 }

@@ -2,11 +2,11 @@
 //! number; the offset and the log bytes written come through a third array.
 use super::{
     make::Script,
-    player::{Played, Player, not_refused},
+    player::{Played, Player, first_words, not_refused},
 };
 use crate::{
     compare::Start,
-    layout::{LENGTH, MOST, Words, encode, read},
+    layout::{MOST, Words, encode, no_states, read},
     states,
 };
 
@@ -61,28 +61,12 @@ impl Player for ProvedPlayer {
 pub fn arrays(seed: u64) -> (u64, Vec<String>) {
     let mut wrong = Vec::new();
     let mut tried = 0;
-    let mut refused = |what: &str, words: &[u64]| {
+    for (what, array) in no_states(&first_words(&Start::Fresh)) {
         for script in [&[][..], &[7], &[8], &[6, 3, 3, 1]] {
             tried += 1;
-            if let Some(how) = not_refused(&mut ProvedPlayer, words, script) {
+            if let Some(how) = not_refused(&mut ProvedPlayer, &array, script) {
                 wrong.push(format!("{what}: {how}"));
             }
-        }
-    };
-    let fresh = super::player::first_words(&Start::Fresh);
-    for length in (0..LENGTH).chain(LENGTH + 1..LENGTH + 12) {
-        let mut words = fresh.to_vec();
-        words.resize(length, 0);
-        refused(&format!("length {length}"), &words);
-    }
-    for (place, most) in MOST.into_iter().enumerate() {
-        let Some(above) = most.checked_add(1) else {
-            continue;
-        };
-        for number in [above, above | 1 << 40, u64::MAX] {
-            let mut words = fresh;
-            words[place] = number;
-            refused(&format!("{number} at place {place}"), &words);
         }
     }
     for seed in seed..seed + 1000 {
