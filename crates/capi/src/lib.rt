@@ -92,6 +92,12 @@ fn bit(b: bool) -> u64
     if b { 1 } else { 0 }
 }
 
+fn byte(b: u8) -> u64
+    ensures { λ r. ⌜ r ≡ b ⌝ }
+{
+    b as u64
+}
+
 fn due_tag(d: Due) -> u64
     ensures { λ r. ⌜ r ≡ due-tag d ⌝ }
 {
@@ -371,16 +377,16 @@ fn register_words(p: Port) -> [u64; 10]
     ensures { λ r. ⌜ r ≡ register-list p ⌝ }
 {
     [
-        p.spcr as u64,
-        p.smr as u64,
-        p.brr as u64,
-        p.scr as u64,
-        p.tdr as u64,
-        p.ssr as u64,
-        p.rdr as u64,
-        p.semr as u64,
-        p.ircr as u64,
-        p.seen as u64,
+        byte(p.spcr),
+        byte(p.smr),
+        byte(p.brr),
+        byte(p.scr),
+        byte(p.tdr),
+        byte(p.ssr),
+        byte(p.rdr),
+        byte(p.semr),
+        byte(p.ircr),
+        byte(p.seen),
     ]
 }
 
