@@ -11,9 +11,7 @@ use borrow.Author.Tests.{leb-true, leb-false}
 use Rattle.frame.proofs.Branches.{not-true}
 use Rattle.frame.proofs.Truth.{and-right}
 use Rattle.sci.specs.declared.Port.{Port}
-use Rattle.sci.specs.Fields.{with-input-clock}
 use Rattle.sci.specs.Baud.{external, running, internal, edge-counts}
-use Rattle.sci.specs.Pins.{receive-input, external-edge}
 use Rattle.sci.specs.Valid.{limit, valid}
 use Rattle.sci.specs.Calls.{Answer, done}
 use Rattle.sci.proofs.Checked.{flag-ready}
@@ -58,7 +56,3 @@ pub pins-set : (z a : Answer) (f g c x : Bool) (r q p : Port) → f ≡ c → f 
 pins-set z a f g c x r q p ef tf eg fg e k =
     e ∙ ap (done 0) (k ∙ sym (ap (λ (b : Bool). cond b q p) (sym ef ∙ tf)))
     ∙ sym (ap (λ (b : Bool). cond b a (done 0 (cond c q p))) (ands-right g c x eg fg))
-
--- clock pin and line set, put together from what calls gave
-pub pins-of : (z r p : Port) (clock line : Bool) → z ≡ external-edge clock (with-input-clock r clock) → r ≡ receive-input line p → z ≡ external-edge clock (with-input-clock (receive-input line p) clock)
-pins-of z r p clock line e h = e ∙ ap (λ (q : Port). external-edge clock (with-input-clock q clock)) h

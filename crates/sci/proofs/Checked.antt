@@ -2,7 +2,7 @@
 -- Assumes nothing.
 use mathlib.Core.Path.{_≡_, refl, sym, ap, _∙_, subst⁻¹}
 use mathlib.Core.Bool.{Bool, true, false, cond, _&&_, _||_, false≢true}
-use Prim.Native.Nat.{ℕ, _<_}
+use Prim.Native.Nat.{ℕ, _+_, _≤_, _<_}
 use native.Mathlib.Omega.{arith}
 use lib.Dec.{eqb, ltb, leb}
 use borrow.Author.Tests.{leb-true, ltb-true}
@@ -127,9 +127,10 @@ receive-input-half line p = both-arms Same (differ line (p .input)) _ _ (go (p .
   go Idle = both-arms Same (arms (with-input p line)) _ _ refl refl
   go (Busy x) = refl
 
--- the same of a call's result
-pub pins-below : (r p : Port) (line clock : Bool) → r ≡ receive-input line p → (edge-counts clock p ≡ true → p .half < limit)
-    → edge-counts clock (with-input-clock r clock) ≡ true → r .half < limit
-pins-below r p line clock e h k =
-    let counts : edge-counts clock p ≡ true = sym (edge-counts-kept clock line p) ∙ ap (λ (x : Port). edge-counts clock (with-input-clock x clock)) (sym e) ∙ k in
-    subst⁻¹ (λ (m : ℕ). m < limit) (ap (λ (x : Port). x .half) e ∙ receive-input-half line p) (h counts)
+-- the same of a call's result, and of a test that another call made of it
+pub pins-room : (r p : Port) (line clock f : Bool) → r ≡ receive-input line p → (edge-counts clock p ≡ true → p .half < limit)
+    → f ≡ edge-counts clock (with-input-clock r clock) → f ≡ true → r .half + 1 ≤ limit
+pins-room r p line clock f e h ef t =
+    let counts : edge-counts clock p ≡ true = sym (edge-counts-kept clock line p) ∙ ap (λ (x : Port). edge-counts clock (with-input-clock x clock)) (sym e) ∙ sym ef ∙ t in
+    let below : r .half < limit = subst⁻¹ (λ (m : ℕ). m < limit) (ap (λ (x : Port). x .half) e ∙ receive-input-half line p) (h counts) in
+    omega (arith, below)

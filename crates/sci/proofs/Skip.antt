@@ -9,7 +9,7 @@ use lib.Dec.{eqb, ltb}
 use borrow.Author.Tests.{ne-eqb, eq-eqb, lt-ltb, ltb-true, ltb-false, eqb-true, eqb-false}
 use Rattle.frame.specs.Frame.{differ}
 use Rattle.frame.proofs.Branches.{by-cond, not-true}
-use Rattle.frame.proofs.Choose.{cond-t}
+use Rattle.frame.proofs.Choose.{cond-t, cond-f}
 use Rattle.frame.proofs.Truth.{and-left, and-right}
 use Rattle.words.specs.declared.Due.{Due}
 use Rattle.words.specs.declared.Due.the-variants.{Never, At}
@@ -19,13 +19,13 @@ use Rattle.words.specs.Due.{due-now, within}
 use Rattle.words.specs.Sender.{tx-next}
 use Rattle.words.specs.Receiver.{rx-next}
 use Rattle.sci.specs.declared.Port.{Port}
-use Rattle.sci.specs.Fields.{with-half, with-high, with-edge}
+use Rattle.sci.specs.Fields.{with-half, with-high, with-edge, with-input-clock}
 use Rattle.sci.specs.Baud.{external, running, counted, edge-counted, edge-counts}
 use Rattle.sci.specs.Receiver.{arm-receive}
 use Rattle.sci.specs.Clocked.{refresh-sync-clock, sync-edge}
 use Rattle.sci.specs.Half.{process-basic, clocked-edge, advance, half-step, halves}
 use Rattle.sci.specs.Skip.{arms-on, clock-fresh, deadline, counted-by, idle-for, edge-now, edge-level, toggled, edge-of, edge-work, Clocked, edges}
-use Rattle.sci.specs.Pins.{external-edge}
+use Rattle.sci.specs.Pins.{receive-input, external-edge}
 use Rattle.sci.specs.Valid.{limit}
 use Rattle.sci.specs.Ready.{Ready}
 use Rattle.sci.proofs.Keep.{own, keep-process-basic, keep-sync-edge, keep-clocked-edge, keep-refresh-sync-clock, keep-counted, sync-edge-ready, clocked-edge-ready, with-clock-ready}
@@ -297,6 +297,19 @@ pin-counts z p high f ef t e =
     turned true false d = refl
     turned false true d = refl
     turned false false d = absurd (false≢true d)
+
+-- the same after the line was set
+pub pins-t : (z r p : Port) (clock line f : Bool) → r ≡ receive-input line p → f ≡ edge-counts clock (with-input-clock r clock) → f ≡ true
+    → z ≡ edge-work true clock (counted (with-input-clock r clock)) → z ≡ external-edge clock (with-input-clock (receive-input line p) clock)
+pins-t z r p clock line f er ef t e =
+    pin-counts z (with-input-clock r clock) clock f ef t e ∙ ap (λ (q : Port). external-edge clock (with-input-clock q clock)) er
+
+pub pins-f : (z r p : Port) (clock line f : Bool) → r ≡ receive-input line p → f ≡ edge-counts clock (with-input-clock r clock) → f ≡ false
+    → z ≡ with-input-clock r clock → z ≡ external-edge clock (with-input-clock (receive-input line p) clock)
+unfolding external-edge
+pins-f z r p clock line f er ef t e =
+    cond-f (edge-counts clock (with-input-clock r clock)) _ (with-input-clock r clock) z (sym ef ∙ t) e
+    ∙ ap (λ (q : Port). external-edge clock (with-input-clock q clock)) er
 
 -- ---- the loop: what is left makes of the port what all of them make of the first one
 halves-add : (k m : ℕ) (p : Port) → halves (k + m) p ≡ halves m (halves k p)

@@ -1320,30 +1320,23 @@ impl Port {
         running & (external & (self.high != high))
     }
 
-    // An edge of the clock pin.
-    fn external_edge(self, high: bool) -> Port
-        requires { ⌜ Ready (self .half) self × (edge-counts high self ≡ true → self .half < limit) ⌝ }
-        ensures { λ r. ⌜ r ≡ external-edge high self ⌝ }
-    {
-        if self.edge_counts(high) {
-            return self.edges(1, true, high);
-        }
-        self
-    }
-
     fn pins_change(self, clock: bool, line: bool) -> bool
         ensures { λ r. ⌜ r ≡ pins-change clock line self ⌝ }
     {
         (line != self.input) | (clock != self.input_clock)
     }
 
+    // The line, then an edge of the clock pin where it counts.
     fn with_pins(self, clock: bool, line: bool) -> Port
         requires { ⌜ Ready (self .half) self × (edge-counts clock self ≡ true → self .half < limit) ⌝ }
         ensures { λ r. ⌜ r ≡ external-edge clock (with-input-clock (receive-input line self) clock) ⌝ }
     {
         let mut port = self.receive_input(line);
         port.input_clock = clock;
-        port.external_edge(clock)
+        if port.edge_counts(clock) {
+            return port.edges(1, true, clock);
+        }
+        port
     }
 
     // ---- one half

@@ -1,5 +1,6 @@
-use Rattle.sci.proofs.CallLaws.{pins-of}
-use Rattle.sci.proofs.Checked.{pins-below}
+use mathlib.Core.Path.{refl}
+use Rattle.sci.proofs.Skip.{pins-t, pins-f}
+use Rattle.sci.proofs.Checked.{pins-room}
 use Rattle.sci.proofs.Keep.{ready-half, ready-tx, ready-rx, receive-input-ready}
 use borrow.Author.Needs.{needs}
 use Rattle.sci.proofs.Port.with_pins.Statement.{statement}
@@ -10,5 +11,7 @@ with-pins-spec =
     tie.close
     (tie.spec
     (λ c κs. search needs)
-    (λ c κs. search (receive-input-ready, ready-half, ready-tx, ready-rx, pins-below, needs) depth 10)
-    (λ c. search (pins-of, needs) depth 10))
+    (λ c κs. search needs)
+    (λ c κs. (search (receive-input-ready, ready-half, ready-tx, ready-rx, needs) depth 10, search (pins-room, needs) depth 10, refl))
+    (λ c. search (pins-t, needs) depth 10)
+    (λ c. search (pins-f, needs) depth 10))
