@@ -1,12 +1,12 @@
--- General lemmas of tests: a branch by its two cases; conjunction, disjunction, negation and mask read as facts.
+-- General lemmas of tests: a branch by its two cases; disjunction and mask read as facts.
 -- Assumes nothing.
 use mathlib.Core.Path.{_≡_, refl, ap}
 use mathlib.Core.Logic.{_⊎_, inl, inr}
 use Prim.Native.Nat.{ℕ}
-use mathlib.Core.Bool.{Bool, true, false, cond, not, _&&_, _||_, true≢false, false≢true}
+use mathlib.Core.Bool.{Bool, true, false, cond, not, _||_, true≢false, false≢true}
 use lib.Dec.{eqb}
 use lib.Bits.{bitAnd}
-use borrow.Author.Tests.{eqb-true, eq-eqb, not-false}
+use borrow.Author.Tests.{eqb-true, eq-eqb, not-true, not-false}
 use Rattle.frame.specs.Frame.{has}
 
 -- the one lemma for every branch
@@ -25,14 +25,6 @@ cond-true b x y e = ap (λ (t : Bool). cond t x y) e
 pub cond-false : {A : Type 0} (b : Bool) (x y : A) → b ≡ false → cond b x y ≡ y
 cond-false b x y e = ap (λ (t : Bool). cond t x y) e
 
-pub and-no : (a : Bool) → (a && false) ≡ false
-and-no true = refl
-and-no false = refl
-
-pub and-yes : (a : Bool) → (a && true) ≡ a
-and-yes true = refl
-and-yes false = refl
-
 pub or-left : (a b : Bool) → (a || b) ≡ false → a ≡ false
 or-left true b e = e
 or-left false b e = refl
@@ -46,17 +38,9 @@ or-true true b e = refl
 or-true false b (inl e) = absurd (false≢true e)
 or-true false b (inr e) = e
 
-pub not-true : (a : Bool) → not a ≡ true → a ≡ false
-not-true true e = absurd (false≢true e)
-not-true false e = refl
-
-pub is-not : (a : Bool) → a ≡ false → not a ≡ true
-is-not true e = absurd (true≢false e)
-is-not false e = refl
-
 -- no bit of the mask is set
 pub without : (x m : ℕ) → not (has x m) ≡ true → bitAnd x m ≡ 0
 without x m e = eqb-true (bitAnd x m) 0 (not-false (eqb (bitAnd x m) 0) (not-true (has x m) e))
 
 pub without-test : (x m : ℕ) → bitAnd x m ≡ 0 → not (has x m) ≡ true
-without-test x m e = is-not (has x m) (ap not (eq-eqb (bitAnd x m) 0 e))
+without-test x m e = ap not (ap not (eq-eqb (bitAnd x m) 0 e))

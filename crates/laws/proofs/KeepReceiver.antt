@@ -9,7 +9,7 @@ use mathlib.Core.Bool.{Bool, true, false, cond, not, _&&_, _||_, true≢false}
 use lib.Dec.{eqb, ltb}
 use lib.Bits.{bitAnd, bitOr}
 use lib.IntN.{ℤ, pos, negsuc}
-use borrow.Author.Tests.{ltb-true, eqb-true, eqb-false}
+use borrow.Author.Tests.{ltb-true, eqb-true, eqb-false, not-true}
 use Rattle.frame.specs.declared.Format.{Format}
 use Rattle.frame.specs.Frame.{has, differ, one-if, format-valid}
 use Rattle.frame.proofs.Truth.{and-left, and-right}
@@ -27,7 +27,7 @@ use Rattle.words.specs.Due.{due-now}
 use Rattle.words.specs.Receiver.{armed, started, stepped, next-position, sample-at, sample, last-bit, bit-taken, clocked-word}
 use Rattle.sci.specs.Receiver.{input-level, error-free, arms, arm-receive, arm-receive-on, complete-receive, after-sample, advance-rx, advance-rx-on}
 use Rattle.sci.specs.Clocked.{take-bit, receive-bit, receive-bit-on}
-use Rattle.frame.proofs.Branches.{by-cond, not-true, or-right}
+use Rattle.frame.proofs.Branches.{by-cond, or-right}
 use Rattle.laws.proofs.Masks.{or-clear, and-clear}
 use Rattle.sci.proofs.SenderKeeps.{SenderClosed}
 use Rattle.laws.proofs.KeepSender.{Ahead, DueBy, later-by, plain-due, by-maybe, not-due}

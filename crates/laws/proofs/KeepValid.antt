@@ -1,6 +1,6 @@
 -- The field test read as facts, and facts put back as the test; what every call does to them.
 -- Assumes nothing.
-use mathlib.Core.Path.{_≡_, refl, sym, subst}
+use mathlib.Core.Path.{_≡_, refl, sym, ap, subst}
 use mathlib.Core.Logic.{_⊎_, inl, inr, ⊎-elim}
 use Prim.Native.Nat.{ℕ, zero, suc, _+_, _≤_, zero-le}
 use native.Mathlib.Omega.{arith}
@@ -8,7 +8,7 @@ use mathlib.Core.Bool.{Bool, true, false, not, _&&_, _||_, false≢true}
 use lib.Dec.{eqb, ltb, leb}
 use lib.Bits.{bitAnd, bitOr}
 use lib.IntN.{ℤ, pos, negsuc}
-use borrow.Author.Tests.{eqb-true, eq-eqb, leb-true, leb-false, le-leb, ltb-true, lt-ltb}
+use borrow.Author.Tests.{eqb-true, eq-eqb, leb-true, leb-false, le-leb, ltb-true, lt-ltb, not-true}
 use Rattle.frame.specs.declared.Format.{Format}
 use Rattle.frame.specs.Frame.{has, format-valid}
 use Rattle.frame.proofs.Truth.{and-left, and-right, and-both, or-cases}
@@ -29,7 +29,7 @@ use Rattle.sci.specs.Pins.{receive-input, pins-change, input-pins}
 use Rattle.words.specs.Valid.{due-at, due-either, due-by, character-valid, loaded-valid, cell-valid, tx-valid, position-valid, word-in-place, rx-valid}
 use Rattle.sci.specs.Valid.{limit, registers-valid, valid}
 use Rattle.sci.specs.Calls.{Call, reads, writes, lets-pass, sets-line, sets-pins, sets-power, passes-inside, Answer, after, bit, called}
-use Rattle.frame.proofs.Branches.{by-cond, both-arms, or-true, not-true, is-not, without, without-test}
+use Rattle.frame.proofs.Branches.{by-cond, both-arms, or-true, without, without-test}
 use Rattle.laws.proofs.KeepSender.{Ahead, DueBy, DueMaybe, GoodLoaded, cell-end, TxFits}
 use Rattle.laws.proofs.KeepReceiver.{last-position, PositionFits, RxFits, Storable, Side}
 use Rattle.laws.proofs.KeepHalf.{Kept, kept-halves}
@@ -56,7 +56,7 @@ by-of c h (At n) e = (not-true c (and-left (not c) _ e), ahead-of h n (and-right
 
 by-test : (c : Bool) (h : ℕ) (d : Due) → DueBy c h d → due-by d c h ≡ true
 by-test c h Never f = f
-by-test c h (At n) f = and-both (not c) _ (is-not c (f .0)) (ahead-test h n (f .1))
+by-test c h (At n) f = and-both (not c) _ (ap not (f .0)) (ahead-test h n (f .1))
 
 -- ---- the sender
 loaded-of : (l : Loaded) → loaded-valid l ≡ true → GoodLoaded l
@@ -97,8 +97,8 @@ place-of (pos j) f e = leb-true j (last-position f) e
 
 place-test : (z : ℤ) (f : Format) → PositionFits z f → position-valid z f ≡ true
 place-test (negsuc (suc (suc n))) f e = absurd e
-place-test (negsuc (suc zero)) f e = is-not (f .synchronous) e
-place-test (negsuc zero) f e = is-not (f .synchronous) e
+place-test (negsuc (suc zero)) f e = ap not e
+place-test (negsuc zero) f e = ap not e
 place-test (pos j) f e = le-leb j (last-position f) e
 
 rx-of : (h : ℕ) (x : Receiver) → rx-valid x h ≡ true → RxFits h x

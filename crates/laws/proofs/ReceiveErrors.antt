@@ -10,7 +10,7 @@ use Rattle.sci.specs.declared.Port.{Port}
 use Rattle.words.specs.declared.Rx.{Rx}
 use Rattle.sci.specs.Receiver.{complete-receive}
 use Rattle.laws.specs.ReceiveErrors.{row, errors, flags, Agrees, Holds, Receives-as-the-manual}
-use Rattle.frame.proofs.Branches.{by-cond, is-not, without}
+use Rattle.frame.proofs.Branches.{by-cond, without}
 use Rattle.laws.proofs.Masks.{and-or}
 
 -- SSR gains the bits m
@@ -59,7 +59,7 @@ module _ (p : Port) (r : Rx) (empty : has (p .ssr) 0x40 ≡ false) (none : bitAn
       (λ c. record {
         flags-after = or-flags (p .ssr) 0x40 none;
         rdr-after = refl;
-        rdrf-after = ap (λ (x : ℕ). not (eqb x 0)) (and-or (p .ssr) 0x40 0x40 ∙ ap (λ (x : ℕ). bitOr x 0x40) (without (p .ssr) 0x40 (is-not (has (p .ssr) 0x40) empty)));
+        rdrf-after = ap (λ (x : ℕ). not (eqb x 0)) (and-or (p .ssr) 0x40 0x40 ∙ ap (λ (x : ℕ). bitOr x 0x40) (without (p .ssr) 0x40 (ap not empty)));
       })
       (λ c. absurd (true≢false (sym (ap (λ (x : ℕ). eqb x 0) e) ∙ c))))
 

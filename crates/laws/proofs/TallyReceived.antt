@@ -2,7 +2,7 @@
 -- Assumes nothing.
 use mathlib.Core.Path.{_≡_, refl, sym, ap, ap₂, _∙_, subst}
 use Prim.Native.Nat.{ℕ, zero, suc}
-use mathlib.Core.Bool.{Bool, true, false, cond, not, _&&_, _||_, Bool·beq, true≢false, false≢true}
+use mathlib.Core.Bool.{Bool, true, false, cond, not, _&&_, _||_, Bool·beq, true≢false, false≢true, and-false}
 use lib.Dec.{eqb, ltb}
 use lib.Bits.{bitAnd, bitOr, or-zero-r}
 use lib.IntN.{ℤ, pos, negsuc}
@@ -26,7 +26,7 @@ use Rattle.sci.specs.Sender.{advance-tx}
 use Rattle.sci.specs.Clocked.{take-bit, receive-bit, receive-bit-on, sync-edge}
 use Rattle.sci.specs.Half.{process-basic}
 use Rattle.laws.specs.Laws.{tally, clean, completes-on, receives}
-use Rattle.frame.proofs.Branches.{by-cond, both-arms, and-no}
+use Rattle.frame.proofs.Branches.{by-cond, both-arms}
 use Rattle.laws.proofs.Masks.{and-and, and-or}
 use Rattle.sci.proofs.SenderKeeps.{SenderClosed, free-sender, shift-keeps, advance-tx-keeps, tail-keeps}
 use Rattle.sci.proofs.ReceiverKeeps.{arm-keeps}
@@ -44,7 +44,7 @@ complete-got p r =
     let H : Bool = has (p .ssr) 0x40 in
     let R : ℕ = p .received in
     let G : Port → Type 0 = Got (tally (E && not H) R) in
-    by-cond G H _ _ (λ b. sym (ap (λ (h : Bool). tally (E && not h) R) b ∙ ap (λ (c : Bool). tally c R) (and-no E)))
+    by-cond G H _ _ (λ b. sym (ap (λ (h : Bool). tally (E && not h) R) b ∙ ap (λ (c : Bool). tally c R) (and-false E)))
     (λ b. by-cond G E _ _ (λ c. sym (ap₂ (λ (e h : Bool). tally (e && not h) R) c b)) (λ c. sym (ap (λ (e : Bool). tally (e && not H) R) c)))
 
 -- a sample that is due, and makes a word whole without error
@@ -125,7 +125,7 @@ last-clocked Idle = false
 last-clocked (Busy r) = last-bit (r .position) && (r .format .synchronous && eqb (r .error) 0)
 
 plain-last : (r : Rx) → r .format .synchronous ≡ false → last-clocked (Busy r) ≡ false
-plain-last r c = ap (λ (s : Bool). last-bit (r .position) && (s && eqb (r .error) 0)) c ∙ and-no (last-bit (r .position))
+plain-last r c = ap (λ (s : Bool). last-bit (r .position) && (s && eqb (r .error) 0)) c ∙ and-false (last-bit (r .position))
 
 pub clocked-last : (r : Rx) → last-clocked (Busy r) ≡ true → r .format .synchronous ≡ true
 clocked-last r l = and-left (r .format .synchronous) (eqb (r .error) 0) (and-right (last-bit (r .position)) _ l)
@@ -225,7 +225,7 @@ receive-got : (p : Port) → Got (tally (last-clocked (p .rx) && ready p) (p .re
 unfolding receive-bit
 receive-got p =
     by-cond (Got (tally (last-clocked (p .rx) && (G && N)) R)) G _ p (λ g. go g (p .rx))
-    (λ g. sym (ap (λ (x : Bool). tally (last-clocked (p .rx) && (x && N)) R) g ∙ ap (λ (x : Bool). tally x R) (and-no (last-clocked (p .rx)))))
+    (λ g. sym (ap (λ (x : Bool). tally (last-clocked (p .rx) && (x && N)) R) g ∙ ap (λ (x : Bool). tally x R) (and-false (last-clocked (p .rx)))))
   where
     G : Bool
     G = has (p .scr) 0x10 && error-free p
@@ -283,10 +283,10 @@ received-once h p b r r′ fits got last same =
 
     at : (l : Bool) → last-clocked (p .rx) ≡ l → (r && (l && ready b)) ≡ (r′ && (l && ready p))
     at true e = let s : (r ≡ r′) × (ready b ≡ ready p) = same e in ap₂ (λ (x y : Bool). x && y) (s .0) (s .1)
-    at false e = and-no r ∙ sym (and-no r′)
+    at false e = and-false r ∙ sym (and-false r′)
 
     none : (m : ℕ) → tally (r′ && false) m ≡ m
-    none m = ap (λ (c : Bool). tally c m) (and-no r′)
+    none m = ap (λ (c : Bool). tally c m) (and-false r′)
 
     busy : (x : Rx) (s : Bool) → x .format .synchronous ≡ s → RxGood h x
         → tally (r′ && ((last-bit (x .position) && (s && eqb (x .error) 0)) && ready p)) (tally (sampled (Busy x) (format-of p) (input-level p) (suc (p .half)) && N) R)
@@ -300,7 +300,7 @@ received-once h p b r r′ fits got last same =
         waits Never g = refl
         waits (At n) g = absurd (true≢false (sym e ∙ g .0))
     busy x false e f =
-        ap (λ (c : Bool). tally (r′ && (c && ready p)) (tally (sampled (Busy x) (format-of p) (input-level p) (suc (p .half)) && N) R)) (and-no (last-bit (x .position)))
+        ap (λ (c : Bool). tally (r′ && (c && ready p)) (tally (sampled (Busy x) (format-of p) (input-level p) (suc (p .half)) && N) R)) (and-false (last-bit (x .position)))
         ∙ none (tally (sampled (Busy x) (format-of p) (input-level p) (suc (p .half)) && N) R)
 
     go : (x : Receiver) → RxFits h x → tally (r′ && (last-clocked x && ready p)) (tally (sampled x (format-of p) (input-level p) (suc (p .half)) && N) R) ≡ tally (completes-on x r′ p && N) R

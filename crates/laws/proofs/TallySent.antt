@@ -2,7 +2,7 @@
 -- Assumes nothing.
 use mathlib.Core.Path.{_≡_, refl, sym, ap, ap₂, _∙_}
 use Prim.Native.Nat.{ℕ, suc, _%_}
-use mathlib.Core.Bool.{Bool, true, false, not, _&&_, _||_}
+use mathlib.Core.Bool.{Bool, true, false, not, _&&_, _||_, and-false, and-true}
 use lib.Dec.{eqb}
 use Rattle.frame.specs.Frame.{has, stop}
 use Rattle.sci.specs.declared.Port.{Port}
@@ -23,7 +23,7 @@ use Rattle.sci.specs.Sender.{loaded, preloaded, preloaded-on, begin, start-at, 
 use Rattle.sci.specs.Clocked.{receive-bit, tail-ends, tail-ends-on, sync-edge}
 use Rattle.sci.specs.Half.{process-basic}
 use Rattle.laws.specs.Laws.{wrap, tally, finishes-on}
-use Rattle.frame.proofs.Branches.{by-cond, both-arms, and-no, and-yes}
+use Rattle.frame.proofs.Branches.{by-cond, both-arms}
 use Rattle.sci.proofs.SenderKeeps.{StartClosed, free-start, begin-keeps, try-keeps, next-keeps, shift-keeps}
 use Rattle.sci.proofs.ReceiverKeeps.{ReceiverClosed, free-receiver, arm-keeps, advance-rx-keeps, receive-bit-keeps}
 
@@ -170,7 +170,7 @@ pub sent-once : (t : Tx) (r r′ : Bool) (half n : ℕ) → (clocked-tail t ≡ 
 sent-once t r r′ half n e = go t e
   where
     none : (m : ℕ) → tally (r && false) m ≡ m
-    none m = ap (λ (b : Bool). tally b m) (and-no r)
+    none m = ap (λ (b : Bool). tally b m) (and-false r)
 
     go : (t : Tx) → (clocked-tail t ≡ true → r ≡ r′) → tally (r && clocked-tail t) (tally (finishes-on t false half) n) ≡ tally (finishes-on t r′ half) n
     go Off e = none n
@@ -178,5 +178,5 @@ sent-once t r r′ half n e = go t e
     go (Mark next) e = none n
     go (Start ch next) e = none n
     go (Data ch cell next) e = none n
-    go (Tail l Never) e = ap (λ (b : Bool). tally b n) (and-yes r ∙ e refl)
+    go (Tail l Never) e = ap (λ (b : Bool). tally b n) (and-true r ∙ e refl)
     go (Tail l (At k)) e = none (tally (eqb k half) n)

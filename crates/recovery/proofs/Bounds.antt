@@ -8,7 +8,7 @@ use mathlib.Core.Bool.{Bool, true, false, cond, not, _&&_, _||_}
 use lib.Dec.{eqb, ltb}
 use lib.Bits.{bitOr}
 use lib.IntN.{ℤ, pos, negsuc}
-use borrow.Author.Tests.{ltb-true, eqb-true, eq-eqb, ne-eqb}
+use borrow.Author.Tests.{ltb-true, eqb-true, eq-eqb, ne-eqb, not-true}
 use Rattle.frame.specs.declared.Format.{Format}
 use Rattle.words.specs.declared.Due.{Due}
 use Rattle.words.specs.declared.Due.the-variants.{At, Never}
@@ -22,7 +22,7 @@ use Rattle.frame.proofs.Words.{Shape, format-good, shape}
 use Rattle.frame.specs.Frame.{differ, format, has, one-if}
 use Rattle.words.specs.Receiver.{armed, sample, sample-at, started, stepped, stopped}
 use Rattle.words.specs.Due.{due-now}
-use Rattle.frame.proofs.Branches.{by-cond, not-true, or-right}
+use Rattle.frame.proofs.Branches.{by-cond, or-right}
 use Rattle.recovery.proofs.Signal.{one-le}
 use Rattle.recovery.proofs.View.{View, fall, v-advance, v-advance-on, v-arm, v-arm-on, v-basic, v-can-arm, v-complete, v-outcome, v-rx}
 

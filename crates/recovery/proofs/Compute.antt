@@ -6,7 +6,7 @@ use mathlib.Core.Bool.{Bool, true, false, not, _&&_, _||_, Bool·beq, true≢fal
 use mathlib.Core.List.{List, [], _∷_, _++_}
 use lib.Dec.{eqb, leb}
 use lib.ListN.{length, getD}
-use borrow.Author.Tests.{eq-eqb, leb-true, le-leb}
+use borrow.Author.Tests.{eq-eqb, leb-true, le-leb, not-true}
 use Rattle.frame.specs.declared.Format.{Format}
 use Rattle.sci.specs.declared.Port.{Port}
 use Rattle.frame.proofs.Truth.{and-both, and-left, and-right}
@@ -14,7 +14,6 @@ use Rattle.frame.specs.Frame.{has}
 use Rattle.sci.specs.Baud.{format-of, internal}
 use Rattle.sci.specs.Calls.{Answer, Call, done, lets-pass, passes-inside, reads, refused, sets-line, sets-pins, sets-power, writes}
 use Rattle.words.specs.Receiver.{rx-clocked}
-use Rattle.frame.proofs.Branches.{not-true}
 use Rattle.recovery.specs.Line.{Count, Event, Item, count-after, half-passes, none-yet, other, prefix, rdr-read, signal, stop-cells-begun, stop-cells-passed, tally-after, values}
 use Rattle.recovery.specs.Recovery.{HistoryEnd, Holds, Moment, Recovered, Recovers, Rest, Wired, Words, accepted, allowed-in-rest, allowed-in-words, answer-is, by-8, call-trace, each, level-of, levels, line-at-mark, one-moment, read-before, run, separated, start, step, throughout, trace, wait-trace, waited}
 use Rattle.recovery.proofs.RestCalls.{levels-append}

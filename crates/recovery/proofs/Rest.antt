@@ -9,7 +9,7 @@ use mathlib.Core.Bool.{Bool, true, false, cond, not, _&&_, true≢false}
 use lib.Dec.{eqb, ltb}
 use lib.Bits.{bitOr}
 use lib.IntN.{ℤ, pos, negsuc}
-use borrow.Author.Tests.{ltb-true, eqb-true, eq-eqb, ne-eqb}
+use borrow.Author.Tests.{ltb-true, eqb-true, eq-eqb, ne-eqb, not-true}
 use Rattle.frame.specs.declared.Format.{Format}
 use Rattle.words.specs.declared.Due.{Due}
 use Rattle.words.specs.declared.Due.the-variants.{At, Never}
@@ -22,7 +22,7 @@ use Rattle.frame.proofs.Truth.{and-left, and-right}
 use Rattle.frame.specs.Frame.{differ, has, one-if}
 use Rattle.words.specs.Receiver.{rx-clocked, armed, sample, sample-at, stepped, stopped}
 use Rattle.words.specs.Due.{due-now}
-use Rattle.frame.proofs.Branches.{by-cond, not-true}
+use Rattle.frame.proofs.Branches.{by-cond}
 use Rattle.recovery.proofs.Bounds.{Fits, Sound, by-clock, by-half, near, nearer, no-word, v-complete-rx}
 use Rattle.recovery.proofs.Halves.{Core, core-advance}
 use Rattle.recovery.proofs.View.{View, fall, v-advance, v-advance-on, v-arm, v-arm-on, v-basic, v-can-arm, v-outcome, v-rx}

@@ -8,7 +8,7 @@ use mathlib.Core.List.{List, [], _∷_, _++_}
 use lib.Dec.{eqb, leb}
 use lib.Bits.{bitAnd}
 use lib.ListN.{length}
-use borrow.Author.Tests.{eqb-true}
+use borrow.Author.Tests.{eqb-true, not-true}
 use Rattle.sci.specs.Calls.{run as port-run, Answer, Call, after, bit, called, direct, done, lets-pass, passes-inside, reads, refuse, sets-line, sets-pins, sets-power, writes}
 use Rattle.words.specs.declared.Due.the-variants.{Never}
 use Rattle.sci.specs.declared.Port.{Port}
@@ -30,7 +30,7 @@ use Rattle.sci.specs.Registers.{cleared, connect, handles, load-tail, peek, rea
 use Rattle.words.specs.Sender.{holds}
 use Rattle.sci.specs.Sender.{try-start}
 use Rattle.sci.specs.Valid.{limit, valid}
-use Rattle.frame.proofs.Branches.{by-cond, not-true}
+use Rattle.frame.proofs.Branches.{by-cond}
 use Rattle.recovery.specs.Line.{Event, Item, half-passes, none-yet, other, prefix, rdr-read, signal}
 use Rattle.recovery.specs.Recovery.{Holds, Moment, allowed-in-words, level-of, levels, one-moment, separated, throughout}
 use Rattle.recovery.proofs.Bounds.{Fits, advance-quiet, by-clock, format-sound}

@@ -6,7 +6,7 @@ use mathlib.Core.Bool.{Bool, true, false, cond, not, _&&_, _||_, true≢false, f
 use mathlib.Core.List.{List, [], _∷_, _++_}
 use lib.Dec.{eqb, leb}
 use lib.Bits.{bitAnd}
-use borrow.Author.Tests.{eqb-true}
+use borrow.Author.Tests.{eqb-true, not-true}
 use Rattle.frame.specs.declared.Format.{Format}
 use Rattle.sci.specs.declared.Port.{Port}
 use Rattle.frame.proofs.Truth.{and-right}
@@ -21,7 +21,7 @@ use Rattle.sci.specs.Power.{set-power}
 use Rattle.sci.specs.Receiver.{arm-receive, input-level}
 use Rattle.sci.specs.Registers.{handles, peek, read, write}
 use Rattle.sci.specs.Valid.{limit, valid}
-use Rattle.frame.proofs.Branches.{by-cond, not-true}
+use Rattle.frame.proofs.Branches.{by-cond}
 use Rattle.laws.proofs.Masks.{and-and}
 use Rattle.recovery.specs.Line.{Count, Event, Item, count-after, half-passes, other, rdr-read}
 use Rattle.recovery.specs.Recovery.{Holds, Moment, allowed-in-words, answer-is, completes, levels, one-moment, read-before, separated, throughout}

@@ -7,8 +7,7 @@ use native.Mathlib.Omega.{arith}
 use lib.Dec.{leb}
 use mir.Syntax.{w8, w32}
 use mir.Val.{Fits}
-use borrow.Author.Tests.{leb-true, leb-false}
-use Rattle.frame.proofs.Branches.{not-true}
+use borrow.Author.Tests.{leb-true, leb-false, not-true}
 use Rattle.frame.proofs.Truth.{and-right}
 use Rattle.sci.specs.declared.Port.{Port}
 use Rattle.sci.specs.Baud.{external, running, internal, edge-counts}

@@ -7,14 +7,14 @@ use Prim.Native.Nat.{ℕ, zero, suc, _+_, _*_, _≤_, _<_, zero-le}
 use native.Mathlib.Numerals.{add-one}
 use native.Mathlib.Omega.{arith}
 use borrow.Author.Needs.{needs}
-use borrow.Author.Tests.{eqb-true, eqb-false, leb-true, ltb-true, le-leb}
+use borrow.Author.Tests.{eqb-true, eqb-false, leb-true, ltb-true, le-leb, not-true}
 use lib.Dec.{eqb, leb, ltb, lit≤}
 use lib.Arith.{lt-of-le-ne}
 use lib.IntN.{ℤ, pos, negsuc}
 use Rattle.frame.specs.declared.Format.{Format}
 use Rattle.frame.specs.Frame.{has, differ, stop, one-if}
 use Rattle.frame.proofs.Truth.{and-left, and-right}
-use Rattle.frame.proofs.Branches.{by-cond, both-arms, or-right, not-true}
+use Rattle.frame.proofs.Branches.{by-cond, both-arms, or-right}
 use Rattle.frame.proofs.Words.{format-good}
 use Rattle.sci.specs.declared.Port.{Port}
 use Rattle.words.specs.declared.Character.{Character}
