@@ -6,7 +6,7 @@ use Prim.Native.Nat.{ℕ}
 use lib.Dec.{eqb}
 use borrow.Author.Tests.{ne-eqb, eq-eqb, lt-ltb, le-ltb, le-leb, lt-leb}
 use borrow.Author.Needs.{needs}
-use Rattle.frame.proofs.Branches.{cond-true, cond-false}
+use Rattle.branches.proofs.Branches.{cond-true, cond-false}
 
 pub cond-t : {A : Type 0} (b : Bool) (x y z : A) → b ≡ true → z ≡ x → z ≡ cond b x y
 cond-t b x y z h e = e ∙ sym (cond-true b x y h)

@@ -1,16 +1,27 @@
--- Laws of bits and shifts, over 16-bit numbers where a shift could lose bits.
+-- Laws of bits, masks and shifts, over 16-bit numbers where a shift could lose bits.
 -- Assumes nothing.
 use mathlib.Core.Path.{_≡_, refl, ap, _∙_}
 use mathlib.Core.Logic.{_⊎_, inl, inr}
-use mathlib.Core.Bool.{not}
+use mathlib.Core.Bool.{true, false, not}
 use Prim.Native.Nat.{ℕ, zero, suc, _+_, _*_, _-_, _/_, _%_, _^_, _≤_, _<_}
 use native.Mathlib.Nat.{mod-eq-of-lt, mod-lt, one-mul, lt-of-le-of-lt}
 use native.Mathlib.Omega.{arith}
 use lib.Dec.{eqb, lit<}
 use lib.Pow.{pow-mono, shl-exact, field, mod-mod-pow}
-use lib.Bits.{bitOr, or-shifted, or-shifted-r, and-mask}
+use lib.Bits.{bitAnd, bitOr, or-shifted, or-shifted-r, and-mask}
 use lib.Count.{ones, ones-step}
+use borrow.Author.Tests.{eqb-true, eq-eqb, not-true, not-false}
 use Rattle.frame.specs.Frame.{has, differ, one-if}
+
+-- no bit of the mask is set
+pub clear-of : (x m : ℕ) → has x m ≡ false → bitAnd x m ≡ 0
+clear-of x m e = eqb-true (bitAnd x m) 0 (not-false (eqb (bitAnd x m) 0) e)
+
+pub without : (x m : ℕ) → not (has x m) ≡ true → bitAnd x m ≡ 0
+without x m e = clear-of x m (not-true (has x m) e)
+
+pub without-test : (x m : ℕ) → bitAnd x m ≡ 0 → not (has x m) ≡ true
+without-test x m e = ap not (ap not (eq-eqb (bitAnd x m) 0 e))
 
 -- a set bit that a shift keeps within 16 bits
 pub one-shl : (n : ℕ) → n ≤ 15 → (1 * 2 ^ n) % 65536 ≡ 2 ^ n

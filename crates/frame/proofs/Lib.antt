@@ -1,4 +1,3 @@
-pub mod Branches
 pub mod Choose
 pub mod Truth
 pub mod Laws

@@ -24,7 +24,7 @@ use Rattle.sci.specs.Half.{process-basic, inside, uncounted}
 use Rattle.sci.specs.Registers.{handles, read, sender-off, sender-on, scr-tx, write-scr, write-tdr, cleared, status-with, status-write, stored, connect, load-tail, settled, write}
 use Rattle.sci.specs.Power.{fresh, reset-registers, reset, with-power, set-power}
 use Rattle.sci.specs.Pins.{receive-input, external-edge, pins-change, input-pins}
-use Rattle.frame.proofs.Branches.{by-cond, both-arms}
+use Rattle.branches.proofs.Branches.{by-cond, both-arms}
 use Rattle.laws.proofs.Masks.{and-and, and-or, or-clear, and-clear}
 use Rattle.sci.proofs.SenderKeeps.{SenderClosed, free-sender, try-keeps, load-tail-keeps}
 use Rattle.sci.proofs.ReceiverKeeps.{ReceiverClosed, free-receiver, arm-keeps, basic-keeps, sync-edge-keeps}

@@ -14,7 +14,7 @@ use Rattle.sci.specs.Sender.{advance-tx}
 use Rattle.sci.specs.Clocked.{sync-needed, with-clock, refresh-sync-clock, receive-bit, sync-edge}
 use Rattle.words.specs.Receiver.{rx-due-on}
 use Rattle.sci.specs.Half.{process-basic, sync, clocked-edge, advance, half-step, halves}
-use Rattle.frame.proofs.Branches.{by-cond, both-arms}
+use Rattle.branches.proofs.Branches.{by-cond, both-arms}
 use Rattle.sci.proofs.SenderKeeps.{SenderClosed, free-sender, advance-tx-keeps, tail-keeps, shift-keeps}
 use Rattle.sci.proofs.ReceiverKeeps.{ReceiverClosed, free-receiver, refresh-keeps, arm-keeps, advance-rx-keeps, receive-bit-keeps, basic-keeps, sync-edge-keeps}
 use Rattle.laws.proofs.KeepSender.{DueMaybe, TxFits, Sends, later-maybe, advance-tx-sends, advance-tx-again, tail-ends-sends, shift-out-sends}

@@ -27,7 +27,7 @@ use Rattle.words.specs.Due.{due-now}
 use Rattle.words.specs.Receiver.{armed, started, stepped, next-position, sample-at, sample, last-bit, bit-taken, clocked-word}
 use Rattle.sci.specs.Receiver.{input-level, error-free, arms, arm-receive, arm-receive-on, complete-receive, after-sample, advance-rx, advance-rx-on}
 use Rattle.sci.specs.Clocked.{take-bit, receive-bit, receive-bit-on}
-use Rattle.frame.proofs.Branches.{by-cond, or-right}
+use Rattle.branches.proofs.Branches.{by-cond, or-right}
 use Rattle.laws.proofs.Masks.{or-clear, and-clear}
 use Rattle.sci.proofs.SenderKeeps.{SenderClosed}
 use Rattle.laws.proofs.KeepSender.{Ahead, DueBy, later-by, plain-due, by-maybe, not-due}

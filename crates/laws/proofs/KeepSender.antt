@@ -31,7 +31,7 @@ use Rattle.sci.specs.Sender.{character, loaded, loaded-on, preloaded, preloaded
 use Rattle.sci.specs.Clocked.{tail-ends, tail-ends-on, bit-out, shift-out, shift-out-on}
 use Rattle.sci.specs.Registers.{load-tail, load-tail-on}
 use Rattle.words.specs.Valid.{character-valid}
-use Rattle.frame.proofs.Branches.{by-cond}
+use Rattle.branches.proofs.Branches.{by-cond}
 
 -- ---- the facts
 abbrev pub Ahead : ℕ → ℕ → Type 0

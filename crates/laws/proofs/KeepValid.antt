@@ -29,7 +29,8 @@ use Rattle.sci.specs.Pins.{receive-input, pins-change, input-pins}
 use Rattle.words.specs.Valid.{due-at, due-either, due-by, character-valid, loaded-valid, cell-valid, tx-valid, position-valid, word-in-place, rx-valid}
 use Rattle.sci.specs.Valid.{limit, registers-valid, valid}
 use Rattle.sci.specs.Calls.{Call, reads, writes, lets-pass, sets-line, sets-pins, sets-power, passes-inside, Answer, after, bit, called}
-use Rattle.frame.proofs.Branches.{by-cond, both-arms, or-true, without, without-test}
+use Rattle.frame.proofs.Laws.{without, without-test}
+use Rattle.branches.proofs.Branches.{by-cond, both-arms, or-true}
 use Rattle.laws.proofs.KeepSender.{Ahead, DueBy, DueMaybe, GoodLoaded, cell-end, TxFits}
 use Rattle.laws.proofs.KeepReceiver.{last-position, PositionFits, RxFits, Storable, Side}
 use Rattle.laws.proofs.KeepHalf.{Kept, kept-halves}

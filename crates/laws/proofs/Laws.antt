@@ -22,7 +22,7 @@ use Rattle.sci.specs.Valid.{limit, valid}
 use Rattle.sci.specs.Calls.{Call, reads, writes, lets-pass, sets-line, sets-pins, sets-power, passes-inside, Answer, done, refused, after, refuse, bit, called, direct, run}
 use Rattle.laws.specs.Laws.{Fresh-passes, Keeps-field-test, Accepted-passes, Grown-passes, Never-refused-by-8, One-of, Refused-stands, Tallies-wrap, Whole-word-counts, Tail-end-counts, Half-counts, Pin-edge-counts, Call-counts, Tallies-count, receives, finishes, in-calls}
 use borrow.Author.Tests.{not-true}
-use Rattle.frame.proofs.Branches.{by-cond, both-arms}
+use Rattle.branches.proofs.Branches.{by-cond, both-arms}
 use Rattle.sci.proofs.SenderKeeps.{StartClosed, free-start, begin-keeps, try-keeps}
 use Rattle.laws.proofs.KeepHalf.{Kept}
 use Rattle.laws.proofs.KeepValid.{valid-sound, sound-valid, fresh-sound, call-sound}

@@ -10,7 +10,8 @@ use Rattle.sci.specs.declared.Port.{Port}
 use Rattle.words.specs.declared.Rx.{Rx}
 use Rattle.sci.specs.Receiver.{complete-receive}
 use Rattle.laws.specs.ReceiveErrors.{row, errors, flags, Agrees, Holds, Receives-as-the-manual}
-use Rattle.frame.proofs.Branches.{by-cond, without}
+use Rattle.frame.proofs.Laws.{clear-of}
+use Rattle.branches.proofs.Branches.{by-cond}
 use Rattle.laws.proofs.Masks.{and-or}
 
 -- SSR gains the bits m
@@ -59,7 +60,7 @@ module _ (p : Port) (r : Rx) (empty : has (p .ssr) 0x40 ≡ false) (none : bitAn
       (λ c. record {
         flags-after = or-flags (p .ssr) 0x40 none;
         rdr-after = refl;
-        rdrf-after = ap (λ (x : ℕ). not (eqb x 0)) (and-or (p .ssr) 0x40 0x40 ∙ ap (λ (x : ℕ). bitOr x 0x40) (without (p .ssr) 0x40 (ap not empty)));
+        rdrf-after = ap (λ (x : ℕ). not (eqb x 0)) (and-or (p .ssr) 0x40 0x40 ∙ ap (λ (x : ℕ). bitOr x 0x40) (clear-of (p .ssr) 0x40 empty));
       })
       (λ c. absurd (true≢false (sym (ap (λ (x : ℕ). eqb x 0) e) ∙ c))))
 

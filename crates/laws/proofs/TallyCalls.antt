@@ -23,7 +23,7 @@ use Rattle.sci.specs.Valid.{limit, valid}
 use Rattle.sci.specs.Calls.{Call, reads, writes, lets-pass, sets-line, sets-pins, sets-power, passes-inside, Answer, after, refuse, bit, called, direct, run}
 use Rattle.laws.specs.Laws.{wrap, tally, grown, finishes, receives, rises, in-halves, pins-set, in-call, in-calls}
 use borrow.Author.Tests.{not-true}
-use Rattle.frame.proofs.Branches.{by-cond, both-arms}
+use Rattle.branches.proofs.Branches.{by-cond, both-arms}
 use Rattle.sci.proofs.SenderKeeps.{StartClosed, free-start, free-sender, try-keeps, load-tail-keeps}
 use Rattle.sci.proofs.ReceiverKeeps.{free-receiver, refresh-keeps, arm-keeps, half-keeps}
 use Rattle.laws.proofs.KeepHalf.{Kept, kept-half}

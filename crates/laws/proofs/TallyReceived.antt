@@ -26,7 +26,7 @@ use Rattle.sci.specs.Sender.{advance-tx}
 use Rattle.sci.specs.Clocked.{take-bit, receive-bit, receive-bit-on, sync-edge}
 use Rattle.sci.specs.Half.{process-basic}
 use Rattle.laws.specs.Laws.{tally, clean, completes-on, receives}
-use Rattle.frame.proofs.Branches.{by-cond, both-arms}
+use Rattle.branches.proofs.Branches.{by-cond, both-arms}
 use Rattle.laws.proofs.Masks.{and-and, and-or}
 use Rattle.sci.proofs.SenderKeeps.{SenderClosed, free-sender, shift-keeps, advance-tx-keeps, tail-keeps}
 use Rattle.sci.proofs.ReceiverKeeps.{arm-keeps}

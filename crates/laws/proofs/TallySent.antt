@@ -23,7 +23,7 @@ use Rattle.sci.specs.Sender.{loaded, preloaded, preloaded-on, begin, start-at, 
 use Rattle.sci.specs.Clocked.{receive-bit, tail-ends, tail-ends-on, sync-edge}
 use Rattle.sci.specs.Half.{process-basic}
 use Rattle.laws.specs.Laws.{wrap, tally, finishes-on}
-use Rattle.frame.proofs.Branches.{by-cond, both-arms}
+use Rattle.branches.proofs.Branches.{by-cond, both-arms}
 use Rattle.sci.proofs.SenderKeeps.{StartClosed, free-start, begin-keeps, try-keeps, next-keeps, shift-keeps}
 use Rattle.sci.proofs.ReceiverKeeps.{ReceiverClosed, free-receiver, arm-keeps, advance-rx-keeps, receive-bit-keeps}
 

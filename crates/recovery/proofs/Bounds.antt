@@ -22,7 +22,7 @@ use Rattle.frame.proofs.Words.{Shape, format-good, shape}
 use Rattle.frame.specs.Frame.{differ, format, has, one-if}
 use Rattle.words.specs.Receiver.{armed, sample, sample-at, started, stepped, stopped}
 use Rattle.words.specs.Due.{due-now}
-use Rattle.frame.proofs.Branches.{by-cond, or-right}
+use Rattle.branches.proofs.Branches.{by-cond, or-right}
 use Rattle.recovery.proofs.Signal.{one-le}
 use Rattle.recovery.proofs.View.{View, fall, v-advance, v-advance-on, v-arm, v-arm-on, v-basic, v-can-arm, v-complete, v-outcome, v-rx}
 

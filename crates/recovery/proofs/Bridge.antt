@@ -17,7 +17,7 @@ use Rattle.sci.specs.Pins.{pins-change}
 use Rattle.sci.specs.Receiver.{input-level}
 use Rattle.sci.specs.Registers.{handles}
 use Rattle.sci.specs.Valid.{limit, valid}
-use Rattle.frame.proofs.Branches.{both-arms, by-cond}
+use Rattle.branches.proofs.Branches.{both-arms, by-cond}
 use Rattle.laws.proofs.Laws.{called-valid}
 use Rattle.recovery.specs.Line.{half-passes}
 use Rattle.recovery.specs.Recovery.{Moment, Wired, allowed-in-rest, allowed-in-words, by-8, call-trace, completes, each, line-at-mark, run, step, trace, wait-trace, waited}

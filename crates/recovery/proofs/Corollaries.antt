@@ -15,7 +15,7 @@ use Rattle.frame.specs.Frame.{has, one-if, stop}
 use Rattle.sci.specs.Baud.{format-of, internal}
 use Rattle.sci.specs.Half.{half-step, halves, uncounted}
 use Rattle.sci.specs.Valid.{limit, valid}
-use Rattle.frame.proofs.Branches.{by-cond}
+use Rattle.branches.proofs.Branches.{by-cond}
 use Rattle.laws.proofs.Laws.{refused-stands}
 use Rattle.laws.specs.Laws.{Refused-stands}
 use Rattle.recovery.specs.Corollaries.{Demand, EndsThere, HearsTheLine, NthWord, OneList, cell-begins, cell-ends, completions-between, completions-of, every, halves-in, last-port, one-completion, rdrf-after, tally-step}

@@ -22,7 +22,7 @@ use Rattle.sci.specs.Fields.{with-rx}
 use Rattle.sci.specs.Half.{advance, clocked-edge, half-step, process-basic, sync}
 use Rattle.words.specs.Due.{due-now}
 use Rattle.sci.specs.Receiver.{complete-receive, error-free, input-level}
-use Rattle.frame.proofs.Branches.{by-cond}
+use Rattle.branches.proofs.Branches.{by-cond}
 use Rattle.recovery.proofs.Bounds.{Fits, basic-fits, basic-twice, by-clock, by-half, format-sound, no-word, v-complete-rx}
 use Rattle.recovery.proofs.Project.{same-either, view, view-basic, view-complete, view-refresh, view-shift-out, view-tail-step}
 use Rattle.recovery.proofs.View.{View, fall, v-advance, v-advance-on, v-arm, v-arm-on, v-basic, v-can-arm, v-complete, v-count, v-half, v-outcome, v-rx}

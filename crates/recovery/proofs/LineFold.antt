@@ -19,7 +19,7 @@ use Rattle.sci.specs.Registers.{cleared, connect, handles, load-tail, read, set
 use Rattle.words.specs.Sender.{holds}
 use Rattle.sci.specs.Sender.{try-start}
 use Rattle.sci.specs.Valid.{limit, valid}
-use Rattle.frame.proofs.Branches.{by-cond}
+use Rattle.branches.proofs.Branches.{by-cond}
 use Rattle.sci.proofs.ReceiverKeeps.{ReceiverClosed, arm-keeps, basic-keeps, free-receiver, half-keeps, refresh-keeps, sync-edge-keeps}
 use Rattle.sci.proofs.SenderKeeps.{SenderClosed, free-sender, load-tail-keeps, try-keeps}
 use Rattle.recovery.specs.Recovery.{Wired, line-after, run, start, step}

@@ -21,7 +21,7 @@ use Rattle.words.specs.Due.{due-now}
 use Rattle.sci.specs.Receiver.{advance-rx, advance-rx-on, after-sample, arm-receive, arm-receive-on, complete-receive, error-free, input-level}
 use Rattle.sci.specs.Registers.{load-tail}
 use Rattle.sci.specs.Sender.{advance-tx, try-start}
-use Rattle.frame.proofs.Branches.{by-cond, without}
+use Rattle.branches.proofs.Branches.{by-cond}
 use Rattle.laws.proofs.Masks.{and-and, and-or}
 use Rattle.sci.proofs.ReceiverKeeps.{refresh-keeps}
 use Rattle.sci.proofs.SenderKeeps.{SenderClosed, StartClosed, advance-tx-keeps, load-tail-keeps, shift-keeps, tail-keeps, try-keeps}
@@ -51,12 +51,9 @@ pub same-either : (b : Bool) (x y : Port) (v : View) → view x ≡ v → view y
 same-either b x y v e g = by-cond (λ (p : Port). view p ≡ v) b x y (λ i. e) (λ i. g)
 
 -- ---- SSR
--- a flag test on a part of the flags, and one that fails
+-- a flag test on a part of the flags
 pub has-mask : (x m n : ℕ) → bitAnd m n ≡ n → has x n ≡ has (bitAnd x m) n
 has-mask x m n e = ap (λ (y : ℕ). not (eqb y 0)) (sym (and-and x m n ∙ ap (bitAnd x) e))
-
-pub clear-of : (x m : ℕ) → has x m ≡ false → bitAnd x m ≡ 0
-clear-of x m e = without x m (ap not e)
 
 -- another SSR with the receiver's flags the same
 same-ssr : (p : Port) (s : ℕ) → bitAnd s 0x78 ≡ bitAnd (p .ssr) 0x78 → view (with-ssr p s) ≡ view p

@@ -18,7 +18,7 @@ use Rattle.sci.specs.Registers.{cleared, connect, handles, load-tail, read, set
 use Rattle.words.specs.Sender.{holds}
 use Rattle.sci.specs.Sender.{try-start}
 use Rattle.sci.specs.Valid.{limit}
-use Rattle.frame.proofs.Branches.{both-arms, by-cond}
+use Rattle.branches.proofs.Branches.{both-arms, by-cond}
 use Rattle.recovery.proofs.Bounds.{Fits, arm-fits, basic-fits, format-sound, no-word}
 use Rattle.recovery.proofs.Halves.{Core, core, core-arm, core-basic, core-half, core-sync-edge, half-fits, sync-edge-fits}
 use Rattle.recovery.proofs.Project.{view, view-arm, view-basic, view-load-tail, view-refresh, view-try-start}

@@ -22,7 +22,7 @@ use Rattle.frame.proofs.Truth.{and-left, and-right}
 use Rattle.frame.specs.Frame.{differ, has, one-if}
 use Rattle.words.specs.Receiver.{rx-clocked, armed, sample, sample-at, stepped, stopped}
 use Rattle.words.specs.Due.{due-now}
-use Rattle.frame.proofs.Branches.{by-cond}
+use Rattle.branches.proofs.Branches.{by-cond}
 use Rattle.recovery.proofs.Bounds.{Fits, Sound, by-clock, by-half, near, nearer, no-word, v-complete-rx}
 use Rattle.recovery.proofs.Halves.{Core, core-advance}
 use Rattle.recovery.proofs.View.{View, fall, v-advance, v-advance-on, v-arm, v-arm-on, v-basic, v-can-arm, v-outcome, v-rx}

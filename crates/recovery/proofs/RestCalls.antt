@@ -16,6 +16,7 @@ use Rattle.words.specs.declared.Receiver.{Receiver}
 use Rattle.words.specs.declared.Receiver.the-variants.{Busy, Idle}
 use Rattle.words.specs.declared.Rx.{Rx}
 use Rattle.frame.proofs.Truth.{and-right}
+use Rattle.frame.proofs.Laws.{clear-of}
 use Rattle.frame.specs.Frame.{differ, format, has}
 use Rattle.sci.specs.Baud.{counted, edge-counted, edge-counts, external, format-of, internal, running}
 use Rattle.words.specs.Receiver.{bit-taken, clocked-word, last-bit, rx-clocked}
@@ -30,13 +31,13 @@ use Rattle.sci.specs.Registers.{cleared, connect, handles, load-tail, peek, rea
 use Rattle.words.specs.Sender.{holds}
 use Rattle.sci.specs.Sender.{try-start}
 use Rattle.sci.specs.Valid.{limit, valid}
-use Rattle.frame.proofs.Branches.{by-cond}
+use Rattle.branches.proofs.Branches.{by-cond}
 use Rattle.recovery.specs.Line.{Event, Item, half-passes, none-yet, other, prefix, rdr-read, signal}
 use Rattle.recovery.specs.Recovery.{Holds, Moment, allowed-in-words, level-of, levels, one-moment, separated, throughout}
 use Rattle.recovery.proofs.Bounds.{Fits, advance-quiet, by-clock, format-sound}
 use Rattle.recovery.proofs.Halfwise.{each-call, half-moments, moments, moments-of, none-refused, rests}
 use Rattle.recovery.proofs.Halves.{Core, Plain, complete-rx, core, core-arm, core-half, early-basic, view-half}
-use Rattle.recovery.proofs.Project.{clear-of, view, view-arm, view-load-tail, view-refresh, view-shift-out, view-tail-step, view-try-start}
+use Rattle.recovery.proofs.Project.{view, view-arm, view-load-tail, view-refresh, view-shift-out, view-tail-step, view-try-start}
 use Rattle.recovery.proofs.Reached.{Near, near-called}
 use Rattle.recovery.proofs.Rest.{Calm, arm-at-mark, basic-calm, calm-fits, calm-over, clocked, ending, fits-calm, none}
 use Rattle.recovery.proofs.View.{View, state, v-arm, v-basic, v-count, v-half}

@@ -21,7 +21,7 @@ use Rattle.sci.specs.Power.{set-power}
 use Rattle.sci.specs.Receiver.{arm-receive, input-level}
 use Rattle.sci.specs.Registers.{handles, peek, read, write}
 use Rattle.sci.specs.Valid.{limit, valid}
-use Rattle.frame.proofs.Branches.{by-cond}
+use Rattle.branches.proofs.Branches.{by-cond}
 use Rattle.laws.proofs.Masks.{and-and}
 use Rattle.recovery.specs.Line.{Count, Event, Item, count-after, half-passes, other, rdr-read}
 use Rattle.recovery.specs.Recovery.{Holds, Moment, allowed-in-words, answer-is, completes, levels, one-moment, read-before, separated, throughout}

@@ -29,7 +29,7 @@ use Rattle.sci.specs.Valid.{limit, registers-valid, valid}
 use Rattle.words.specs.Ready.{Bounded, Plain, Placed, PlacedIn, LoadedBounded, Below, Sendable}
 use Rattle.sci.specs.Ready.{Ready}
 use Rattle.sci.proofs.Steps.{valid-bounded}
-use Rattle.frame.proofs.Branches.{both-arms}
+use Rattle.branches.proofs.Branches.{both-arms}
 
 -- ---- a due half only with a start-stop word
 valid-plain : (d : Due) (s : Bool) (half : ℕ) → due-by d s half ≡ true → Plain d s

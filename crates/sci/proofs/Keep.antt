@@ -14,7 +14,7 @@ use lib.IntN.{ℤ, pos, negsuc}
 use Rattle.frame.specs.declared.Format.{Format}
 use Rattle.frame.specs.Frame.{has, differ, stop, one-if}
 use Rattle.frame.proofs.Truth.{and-left, and-right}
-use Rattle.frame.proofs.Branches.{by-cond, both-arms, or-right}
+use Rattle.branches.proofs.Branches.{by-cond, both-arms, or-right}
 use Rattle.frame.proofs.Words.{format-good}
 use Rattle.sci.specs.declared.Port.{Port}
 use Rattle.words.specs.declared.Character.{Character}

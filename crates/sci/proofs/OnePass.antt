@@ -10,7 +10,8 @@ use lib.Dec.{eqb, ltb}
 use lib.IntN.{ℤ, pos, negsuc}
 use Rattle.frame.specs.declared.Format.{Format}
 use Rattle.frame.specs.Frame.{has, stop}
-use Rattle.frame.proofs.Branches.{by-cond, both-arms, cond-true, cond-false, or-left, or-right, not-true}
+use Rattle.branches.proofs.Branches.{by-cond, both-arms, cond-true, cond-false, or-left, or-right}
+use borrow.Author.Tests.{not-true}
 use Rattle.frame.proofs.Truth.{and-left, and-right}
 use Rattle.words.specs.declared.Character.{Character}
 use Rattle.words.specs.declared.Due.{Due}

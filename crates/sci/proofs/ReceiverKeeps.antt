@@ -21,7 +21,7 @@ use Rattle.sci.specs.Receiver.{input-level, error-free, arms, arm-receiv
 use Rattle.sci.specs.Sender.{advance-tx}
 use Rattle.sci.specs.Clocked.{sync-needed, with-clock, refresh-sync-clock, take-bit, receive-bit, receive-bit-on, sync-edge}
 use Rattle.sci.specs.Half.{process-basic, sync, clocked-edge, advance, half-step}
-use Rattle.frame.proofs.Branches.{both-arms}
+use Rattle.branches.proofs.Branches.{both-arms}
 use Rattle.sci.proofs.SenderKeeps.{SenderClosed, advance-tx-keeps, tail-keeps, shift-keeps}
 
 -- P is kept by each of the receiver's primitive updates

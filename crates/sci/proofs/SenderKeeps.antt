@@ -22,7 +22,7 @@ use Rattle.words.specs.Sender.{level, holds, tx-next}
 use Rattle.sci.specs.Sender.{loaded, preloaded, preloaded-on, drive, begin, start-at, start-loaded, try-start, try-start-on, one-sent, finish-tail, next-cell, send-step-on, advance-tx}
 use Rattle.sci.specs.Clocked.{tail-ends, tail-ends-on, bit-out, shift-out, shift-out-on}
 use Rattle.sci.specs.Registers.{load-tail, load-tail-on}
-use Rattle.frame.proofs.Branches.{both-arms}
+use Rattle.branches.proofs.Branches.{both-arms}
 
 -- P is kept by each of the sender's primitive updates: those by which a word starts and goes on, and the end of one
 pub record StartClosed (P : Port → Type 0) : Type 0 where

@@ -8,7 +8,7 @@ use native.Mathlib.Nat.{le-trans, zero-add, suc-add}
 use lib.Dec.{eqb, ltb}
 use borrow.Author.Tests.{ne-eqb, eq-eqb, lt-ltb, ltb-true, ltb-false, eqb-true, eqb-false, not-true}
 use Rattle.frame.specs.Frame.{differ}
-use Rattle.frame.proofs.Branches.{by-cond}
+use Rattle.branches.proofs.Branches.{by-cond}
 use Rattle.frame.proofs.Choose.{cond-t, cond-f}
 use Rattle.frame.proofs.Truth.{and-left, and-right}
 use Rattle.words.specs.declared.Due.{Due}

@@ -1,13 +1,8 @@
--- General lemmas of tests: a branch by its two cases; disjunction and mask read as facts.
+-- General lemmas of tests: a branch by its two cases, and a disjunction read as facts. What the library says of conjunction and negation is cited there.
 -- Assumes nothing.
 use mathlib.Core.Path.{_≡_, refl, ap}
 use mathlib.Core.Logic.{_⊎_, inl, inr}
-use Prim.Native.Nat.{ℕ}
-use mathlib.Core.Bool.{Bool, true, false, cond, not, _||_, true≢false, false≢true}
-use lib.Dec.{eqb}
-use lib.Bits.{bitAnd}
-use borrow.Author.Tests.{eqb-true, eq-eqb, not-true, not-false}
-use Rattle.frame.specs.Frame.{has}
+use mathlib.Core.Bool.{Bool, true, false, cond, _||_, true≢false, false≢true}
 
 -- the one lemma for every branch
 pub by-cond : {A : Type 0} (P : A → Type 0) (b : Bool) (x y : A) → (b ≡ true → P x) → (b ≡ false → P y) → P (cond b x y)
@@ -37,10 +32,3 @@ pub or-true : (a b : Bool) → (a ≡ true) ⊎ (b ≡ true) → (a || b) ≡ tr
 or-true true b e = refl
 or-true false b (inl e) = absurd (false≢true e)
 or-true false b (inr e) = e
-
--- no bit of the mask is set
-pub without : (x m : ℕ) → not (has x m) ≡ true → bitAnd x m ≡ 0
-without x m e = eqb-true (bitAnd x m) 0 (not-false (eqb (bitAnd x m) 0) (not-true (has x m) e))
-
-pub without-test : (x m : ℕ) → bitAnd x m ≡ 0 → not (has x m) ≡ true
-without-test x m e = ap not (ap not (eq-eqb (bitAnd x m) 0 e))
