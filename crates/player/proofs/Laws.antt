@@ -31,17 +31,13 @@ use Rattle.script.specs.Number.{fault-number}
 use Rattle.script.specs.Command.{command-at}
 use Rattle.script.specs.Items.{item, items}
 use Rattle.script.specs.Write.{kind}
-use Rattle.script.proofs.Numbers.{cond-with}
+use Rattle.branches.proofs.Branches.{either-way}
 use Rattle.script.proofs.Items.{Moves, command-moves, items-next, items-none}
 use Rattle.player.specs.declared.Stepped.{Stepped}
 use Rattle.player.specs.declared.Stepped.the-variants.{Onward, Stopped}
 use Rattle.player.specs.declared.End.the-variants.{Accepted, Refused}
 use Rattle.player.specs.Play.{call-of, record-length, record-of, Run, ended, recorded, answered, play-items, play, ran}
 use Rattle.player.specs.Step.{refusal-of, Turn, onward, stopped, stepped, called, decoded, step, play-on}
-
-split-by : {A : Type 0} (b : Bool) → (b ≡ true → A) → (b ≡ false → A) → A
-split-by true p q = p refl
-split-by false p q = q refl
 
 -- ---- one command
 
@@ -93,9 +89,9 @@ module _ (p : Port) (s : List ℕ) (at : ℕ) (log : List ℕ) where
 
   by-decoded : (d : Decoded) → Moves at d → By (cond (ltb (length log) record-length) (stopped 9 log) (decoded p log d)) (play-items p (item (items s) at d) log)
   unfolding play-items
-  by-decoded (Refuses why) h = split-by (ltb (length log) record-length) (λ t. rw t (refl, refl)) (λ t. rw t (refl, refl))
+  by-decoded (Refuses why) h = either-way (ltb (length log) record-length) (λ t. rw t (refl, refl)) (λ t. rw t (refl, refl))
   by-decoded (Found c next) h =
-      split-by (ltb (length log) record-length) (λ t. rw t (refl, refl))
+      either-way (ltb (length log) record-length) (λ t. rw t (refl, refl))
       (λ t. rw t (by-answer c next (direct (call-of c) p) h (ltb-false (length log) record-length t)))
 
   by-step : at < length s → By (step p s at log) (play-items p (items s at) log)

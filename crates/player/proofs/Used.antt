@@ -13,7 +13,7 @@ use Rattle.sci.specs.Calls.{Answer, done, refused, direct}
 use Rattle.sci.specs.Valid.{valid}
 use Rattle.script.specs.declared.Command.{Command}
 use Rattle.script.specs.Items.{Item, call, stop, items}
-use Rattle.script.proofs.Numbers.{cond-with}
+use Rattle.branches.proofs.Branches.{by-cond}
 use Rattle.player.specs.Play.{Run, call-of, record-length, record-of, ended, recorded, answered, play-items, play}
 
 pub record Within (log : List ℕ) (r : Run) : Type 0 where
@@ -33,12 +33,12 @@ items-within : (p : Port) (is : List Item) (log : List ℕ) → Within log (play
 unfolding play-items
 items-within p [] log = stopped-within 0 0 p log
 items-within p (stop at why ∷ is) log =
-    cond-with (Within log) (ltb (length log) record-length) (λ t. stopped-within 9 at p log) (λ t. record { used = omega arith; long = refl })
+    by-cond (Within log) (ltb (length log) record-length) _ _ (λ t. stopped-within 9 at p log) (λ t. record { used = omega arith; long = refl })
 items-within p (call at c ∷ is) log =
-    cond-with (Within log) (ltb (length log) record-length) (λ t. stopped-within 9 at p log)
+    by-cond (Within log) (ltb (length log) record-length) _ _ (λ t. stopped-within 9 at p log)
     (λ t. answered-within at c p log (λ q. play-items q is (drop record-length log)) (direct (call-of c) p) (ltb-false (length log) record-length t)
     (λ q. items-within q is (drop record-length log)))
 
 pub within : (p : Port) (s log : List ℕ) → Within log (play p s log)
 unfolding play
-within p s log = cond-with (Within log) (valid p) (λ t. items-within p (items s 0) log) (λ t. stopped-within 8 0 p log)
+within p s log = by-cond (Within log) (valid p) _ _ (λ t. items-within p (items s 0) log) (λ t. stopped-within 8 0 p log)

@@ -2,7 +2,6 @@
 -- Assumes nothing.
 use mathlib.Core.Path.{_≡_, refl, ap, _∙_}
 use mathlib.Core.Bool.{true, false}
-use mathlib.Core.Logic.{⊎-elim}
 use mathlib.Core.List.{List, [], _∷_, _++_}
 use Prim.Native.Nat.{ℕ, zero, suc, _+_, _-_, _*_, _/_, _%_, _^_, _≤_, _<_}
 use native.Mathlib.Omega.{arith, pow-step}
@@ -12,7 +11,8 @@ use borrow.Rule.Slice.PartMut.{putMid}
 use lib.Dec.{ltb}
 use borrow.Author.Tests.{lt-ltb, le-ltb}
 use Rattle.store.specs.Store.{Stored}
-use Rattle.store.proofs.Laws.{split, part-stored}
+use Rattle.branches.proofs.Branches.{either-way}
+use Rattle.store.proofs.Laws.{part-stored}
 use Rattle.report.specs.Decimal.{digit, digits}
 use Rattle.report.specs.Lines.{Printed, printed, line}
 
@@ -38,10 +38,9 @@ many (suc k) v h g =
 pub digits-long : (k v : ℕ) → length (digits k v) ≤ k + 1
 digits-long zero v = omega arith
 digits-long (suc k) v =
-    ⊎-elim
-    (λ (t : ltb v 10 ≡ true). rw t (omega arith))
-    (λ (t : ltb v 10 ≡ false). rw (t, length-append) (omega (arith, digits-long k (v / 10))))
-    (split (ltb v 10))
+    either-way (ltb v 10)
+    (λ t. rw t (omega arith))
+    (λ t. rw (t, length-append) (omega (arith, digits-long k (v / 10))))
 
 -- a text copied to the front of the part from `at` on, which is then `ys`
 pub copied : (at n : ℕ) (text buf ys : List ℕ) → n ≡ length text → ys ≡ take (length text) text ++ drop (length text) (take (length buf - at) (drop at buf)) →

@@ -20,7 +20,7 @@ use Rattle.script.specs.declared.Fault.the-variants.{Short, Number, Kind, Opera
 use Rattle.script.specs.declared.Command.{Command}
 use Rattle.script.specs.Number.{fault-number}
 use Rattle.script.specs.Items.{Item, call, stop, items}
-use Rattle.script.proofs.Numbers.{cond-with}
+use Rattle.branches.proofs.Branches.{by-cond}
 use Rattle.player.specs.Play.{Run, call-of, record-length, record-of, ended, recorded, answered, play-items, play}
 use Rattle.recovery.specs.Line.{Item as OnLine}
 use Rattle.recovery.specs.Recovery.{HistoryEnd, Recovered, Recovers, Rest, Wired, Words, accepted, rest-end, start, step, trace, run as run-wired}
@@ -80,9 +80,9 @@ plays : (p : Port) (is : List Item) (log : List ℕ) → Plays p (commands is) l
 unfolding play-items
 plays p [] log = none 0 0 p [] log (λ z. refl)
 plays p (stop at why ∷ is) log =
-    cond-with (Plays p [] log) (ltb (length log) record-length) (λ t. none 9 at p [] log (λ z. refl)) (λ t. none (fault-number why) at p [] log (λ z. refl))
+    by-cond (Plays p [] log) (ltb (length log) record-length) _ _ (λ t. none 9 at p [] log (λ z. refl)) (λ t. none (fault-number why) at p [] log (λ z. refl))
 plays p (call at c ∷ is) log =
-    cond-with (Plays p (c ∷ commands is) log) (ltb (length log) record-length) (λ t. none 9 at p (c ∷ commands is) log (λ z. absurd (omega arith)))
+    by-cond (Plays p (c ∷ commands is) log) (ltb (length log) record-length) _ _ (λ t. none 9 at p (c ∷ commands is) log (λ z. absurd (omega arith)))
     (λ t. one at c p (commands is) log (λ q. play-items q is (drop record-length log)) (direct (call-of c) p) refl (λ q. plays q is (drop record-length log)))
 
 -- as many as there are records
@@ -102,7 +102,7 @@ pub runs-are-calls : RunsAreCalls
 unfolding play
 runs-are-calls p s log =
     is-its-calls p s log (play p s log)
-    (cond-with (Plays p (commands (items s 0)) log) (valid p) (λ t. plays p (items s 0) log) (λ t. none 8 0 p (commands (items s 0)) log (λ z. absurd (omega arith))))
+    (by-cond (Plays p (commands (items s 0)) log) (valid p) _ _ (λ t. plays p (items s 0) log) (λ t. none 8 0 p (commands (items s 0)) log (λ z. absurd (omega arith))))
 
 -- ---- the test 8
 
@@ -125,9 +125,9 @@ answered-not-8 at c p log rest (refused n offset q) e h g =
 items-not-8 : (p : Port) (is : List Item) (log : List ℕ) → valid p ≡ true → Not8 (play-items p is log)
 unfolding play-items
 items-not-8 p [] log h = λ z. omega arith
-items-not-8 p (stop at why ∷ is) log h = cond-with Not8 (ltb (length log) record-length) (λ t z. omega arith) (λ t. fault-not-8 why)
+items-not-8 p (stop at why ∷ is) log h = by-cond Not8 (ltb (length log) record-length) _ _ (λ t z. omega arith) (λ t. fault-not-8 why)
 items-not-8 p (call at c ∷ is) log h =
-    cond-with Not8 (ltb (length log) record-length) (λ t z. omega arith)
+    by-cond Not8 (ltb (length log) record-length) _ _ (λ t z. omega arith)
     (λ t. answered-not-8 at c p log (λ q. play-items q is (drop record-length log)) (direct (call-of c) p) refl h
     (λ q. items-not-8 q is (drop record-length log)))
 

@@ -21,7 +21,8 @@ use Rattle.script.specs.Encode.{encode}
 use Rattle.script.specs.Command.{Row, kinds, look-up, operands-of, command-of, in-range, operand-at, and-then, with-operands, command-at}
 use Rattle.script.specs.Write.{bytes, InRange}
 use Rattle.script.specs.RoundTrip.{largest, Bytes, Stands, CommandsReadBack, CommandsAreEncodings}
-use Rattle.script.proofs.Numbers.{cond-with, first-part, second-part, side-by-side, numbers-read-back, numbers-are-encodings}
+use Rattle.branches.proofs.Branches.{by-cond}
+use Rattle.script.proofs.Numbers.{first-part, second-part, side-by-side, numbers-read-back, numbers-are-encodings}
 
 -- ---- commands read back
 
@@ -77,7 +78,7 @@ and-then-with P (Refused why) f p q = q why
 -- an operand that is accepted is a number that is accepted, and within its limit
 pub operand-within : (m : ℕ) (n : Number) (v next : ℕ) → in-range m n ≡ Value v next → (n ≡ Value v next) × (v ≤ m)
 operand-within m (Value w to) v next e =
-    cond-with (λ r. r ≡ Value v next → (Value w to ≡ Value v next) × (v ≤ m)) (leb w m)
+    by-cond (λ r. r ≡ Value v next → (Value w to ≡ Value v next) × (v ≤ m)) (leb w m) _ _
     (λ t f. let g : w ≡ v = cc in (f, omega (arith, leb-true w m t)))
     (λ t f. let z : _≡_ {A = ℕ} 0 1 = cc in absurd (omega arith))
     e
@@ -91,7 +92,7 @@ EachRow P (r ∷ rs) = P (r .kind) (r .operands) × EachRow P rs
 by-row : (P : ℕ → Operands → Type 0) → ((k : ℕ) → P k Unknown) → (rs : List Row) → EachRow P rs → (k : ℕ) → P k (look-up k rs)
 by-row P u [] h k = u k
 by-row P u (r ∷ rs) h k =
-    cond-with (P k) (eqb k (r .kind))
+    by-cond (P k) (eqb k (r .kind)) _ _
     (λ t. subst (λ (j : ℕ). P j (r .operands)) (sym (eqb-true k (r .kind) t)) (h .0))
     (λ t. by-row P u rs (h .1) k)
 

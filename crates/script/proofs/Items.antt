@@ -21,7 +21,8 @@ use Rattle.script.specs.Command.{operands-of, command-of, operand-at, an
 use Rattle.script.specs.Items.{Item, call, item, items-up-to, items, ItemsNext, ItemsNone}
 use Rattle.script.specs.Write.{bytes}
 use Rattle.script.specs.RoundTrip.{Stands, script, calls, AllInRange, ScriptsReadBack}
-use Rattle.script.proofs.Numbers.{cond-with, first-part, second-part}
+use Rattle.branches.proofs.Branches.{by-cond}
+use Rattle.script.proofs.Numbers.{first-part, second-part}
 use Rattle.script.proofs.Commands.{and-then-with, operand-within, commands-read-back}
 
 -- ---- reading moves on
@@ -38,8 +39,8 @@ groups-later : (k at : ℕ) (s : List ℕ) → Later at (groups k at s)
 groups-later k at [] = tt
 groups-later k at (b ∷ s) =
     let one : Later at (Value b (at + 1)) = omega arith in
-    cond-with (Later at) (breaks k b) (λ t. tt)
-    (λ t. cond-with (Later at) (ltb b 128) (λ u. one) (λ u. group-later at b (groups (k - 1) (at + 1) s) (groups-later (k - 1) (at + 1) s)))
+    by-cond (Later at) (breaks k b) _ _ (λ t. tt)
+    (λ t. by-cond (Later at) (ltb b 128) _ _ (λ u. one) (λ u. group-later at b (groups (k - 1) (at + 1) s) (groups-later (k - 1) (at + 1) s)))
 
 abbrev pub Moves : ℕ → Decoded → Type 0
 Moves at (Found c next) = at < next

@@ -2,7 +2,6 @@
 -- Assumes nothing.
 use mathlib.Core.Path.{_≡_, refl, sym, ap, _∙_}
 use mathlib.Core.Bool.{Bool, true, false, cond, _&&_, _||_, false≢true}
-use mathlib.Core.Logic.{⊎-elim}
 use mathlib.Core.List.{List, [], _∷_, _++_, append-nil}
 use Prim.Native.Nat.{ℕ, zero, suc, _+_, _-_, _*_, _/_, _%_, _^_, _≤_, _<_}
 use native.Mathlib.Omega.{arith, pow-step}
@@ -14,7 +13,7 @@ use lib.Dec.{ltb, eqb}
 use borrow.Rule.Slice.PartAt.{part-to-end}
 use borrow.Rule.Slice.PartMut.{putMid, same-len-mid}
 use borrow.Author.Tests.{lt-ltb, le-ltb, ltb-false, eqb-false}
-use Rattle.store.proofs.Laws.{split}
+use Rattle.branches.proofs.Branches.{either-way, or-left, or-right}
 use Rattle.script.specs.declared.Fault.the-variants.{Short, Number as NotANumber}
 use Rattle.script.specs.declared.Number.{Number}
 use Rattle.script.specs.declared.Number.the-variants.{Value, Refused}
@@ -27,24 +26,16 @@ use Rattle.script.specs.Encode.{encode-in, encode}
 drop-next : (s : List ℕ) (at : ℕ) → at < length s → drop at s ≡ getD s at 0 ∷ drop (at + 1) s
 drop-next s at h = rw (add-one, drop-cons s at 0)
 
-neither-left : (a b : Bool) → (a || b) ≡ false → a ≡ false
-neither-left true b e = absurd (false≢true (sym e))
-neither-left false b e = refl
-
-neither-right : (a b : Bool) → (a || b) ≡ false → b ≡ false
-neither-right true b e = absurd (false≢true (sym e))
-neither-right false b e = e
-
 -- a byte after the first that is allowed is not zero
 pub not-zero : (more b : ℕ) → breaks more b ≡ false → more < 4 → 0 < b
 not-zero more b e h =
-    let z : (ltb more 4 && eqb b 0) ≡ false = neither-left (ltb more 4 && eqb b 0) (eqb more 0 && ltb 15 b) e in
+    let z : (ltb more 4 && eqb b 0) ≡ false = or-left (ltb more 4 && eqb b 0) (eqb more 0 && ltb 15 b) e in
     let n : eqb b 0 ≡ false = rw (lt-ltb more 4 h) at z in
     omega (arith, eqb-false b 0 n)
 
 -- a fifth byte that is allowed is at most 15
 pub fifth : (b : ℕ) → breaks 0 b ≡ false → b ≤ 15
-fifth b e = ltb-false 15 b (neither-right (eqb b 0) (ltb 15 b) e)
+fifth b e = ltb-false 15 b (or-right (eqb b 0) (ltb 15 b) e)
 
 pow-above : (m : ℕ) → 1 ≤ 128 ^ m
 pow-above m = omega (arith, pow-le-pow-right {n = 128} (omega arith) {i = 0} {j = m} (omega arith))
@@ -149,10 +140,9 @@ small (suc k) v h = rw (lt-ltb v 128 h)
 pub encode-short : (k v : ℕ) → length (encode-in k v) ≤ k + 1
 encode-short zero v = omega arith
 encode-short (suc k) v =
-    ⊎-elim
-    (λ (t : ltb v 128 ≡ true). rw t (omega arith))
-    (λ (t : ltb v 128 ≡ false). rw t (omega (arith, encode-short k (v / 128))))
-    (split (ltb v 128))
+    either-way (ltb v 128)
+    (λ t. rw t (omega arith))
+    (λ t. rw t (omega (arith, encode-short k (v / 128))))
 
 -- how many bytes a number takes, by its size
 module _ (v : ℕ) where

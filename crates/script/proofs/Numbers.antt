@@ -10,18 +10,13 @@ use lib.ListN.{length, drop, length-append}
 use lib.Seq.{drop-at, drop-drop, drop-append-seam}
 use lib.Dec.{ltb, eqb}
 use borrow.Author.Tests.{ltb-true, ltb-false, lt-ltb, le-ltb, ne-eqb, eqb-true}
-use Rattle.store.proofs.Laws.{split}
+use Rattle.branches.proofs.Branches.{by-cond, either-way}
 use Rattle.script.specs.declared.Number.{Number}
 use Rattle.script.specs.declared.Number.the-variants.{Value, Refused}
 use Rattle.script.specs.Number.{breaks, groups, with-group}
 use Rattle.script.specs.Encode.{encode-in, encode}
 use Rattle.script.specs.RoundTrip.{Bytes, Stands, BytesStand, NumbersReadBack, NumbersAreEncodings}
 use Rattle.script.proofs.Laws.{not-zero, fifth, last-bound}
-
--- what holds of both branches, each under its test, holds of the one taken
-pub cond-with : {A : Type 0} (P : A → Type 0) (b : Bool) {x y : A} → (b ≡ true → P x) → (b ≡ false → P y) → P (cond b x y)
-cond-with P true p q = p refl
-cond-with P false p q = q refl
 
 -- ---- bytes that stand in a script
 
@@ -69,9 +64,9 @@ groups-back : (k at v : ℕ) (rest : List ℕ) → (k < 4 → 0 < v) → v < 16 
 groups-back zero at v rest h g = simp (allowed 0 v h (λ e. omega arith), lt-ltb v 128 (omega arith))
 groups-back (suc k) at v rest h g =
     let g′ : v < 16 * (128 * 128 ^ k) = rw (pow-step 128 k) at g in
-    ⊎-elim
-    (λ (t : ltb v 128 ≡ true). simp (t, allowed (suc k) v h (λ e. omega arith)))
-    (λ (t : ltb v 128 ≡ false).
+    either-way (ltb v 128)
+    (λ t. simp (t, allowed (suc k) v h (λ e. omega arith)))
+    (λ t.
     let big : 128 ≤ v = ltb-false _ _ t in
     let down : suc k - 1 ≡ k = omega arith in
     let whole : v % 128 + 128 - 128 + 128 * (v / 128) ≡ v = omega arith in
@@ -85,7 +80,6 @@ groups-back (suc k) at v rest h g =
       whole,
       place,
     ))
-    (split (ltb v 128))
 
 pub numbers-read-back : NumbersReadBack
 numbers-read-back s at v next t h =
@@ -118,14 +112,14 @@ more-bytes k at b s (Refused why) f lo hi h = tt
 groups-encoded : (k at : ℕ) (s : List ℕ) → k ≤ 4 → Bytes s → Encoded k at s (groups k at s)
 groups-encoded k at [] f h = tt
 groups-encoded zero at (b ∷ s) f h =
-    cond-with (Encoded 0 at (b ∷ s)) (breaks 0 b) (λ t. tt)
-    (λ t. cond-with (Encoded 0 at (b ∷ s)) (ltb b 128) (λ u. one-byte 0 at b s t (ltb-true b 128 u))
+    by-cond (Encoded 0 at (b ∷ s)) (breaks 0 b) _ _ (λ t. tt)
+    (λ t. by-cond (Encoded 0 at (b ∷ s)) (ltb b 128) _ _ (λ u. one-byte 0 at b s t (ltb-true b 128 u))
     (λ u. absurd (omega (arith, fifth b t, ltb-false b 128 u))))
 groups-encoded (suc k) at (b ∷ s) f h =
     let down : suc k - 1 ≡ k = omega arith in
     rw down
-    (cond-with (Encoded (suc k) at (b ∷ s)) (breaks (suc k) b) (λ t. tt)
-    (λ t. cond-with (Encoded (suc k) at (b ∷ s)) (ltb b 128) (λ u. one-byte (suc k) at b s t (ltb-true b 128 u))
+    (by-cond (Encoded (suc k) at (b ∷ s)) (breaks (suc k) b) _ _ (λ t. tt)
+    (λ t. by-cond (Encoded (suc k) at (b ∷ s)) (ltb b 128) _ _ (λ u. one-byte (suc k) at b s t (ltb-true b 128 u))
     (λ u. more-bytes k at b s (groups k (at + 1) s) (omega arith) (ltb-false b 128 u) (h .0) (groups-encoded k (at + 1) s (omega arith) (h .1)))))
 
 bytes-behind : (at : ℕ) (s : List ℕ) → Bytes s → Bytes (drop at s)

@@ -1,8 +1,6 @@
 -- What `store` leaves: a buffer as long as before, and, of two stores side by side, one. And a part of a buffer that was lent and is back in its place.
 -- Assumes nothing.
 use mathlib.Core.Path.{_≡_, refl, sym, subst, _∙_}
-use mathlib.Core.Bool.{Bool, true, false}
-use mathlib.Core.Logic.{_⊎_, inl, inr, ⊎-elim}
 use mathlib.Core.List.{List, [], _∷_, _++_, append-assoc, append-nil}
 use Prim.Native.Nat.{ℕ, _+_, _-_, _≤_, _<_}
 use native.Mathlib.Omega.{arith}
@@ -13,19 +11,15 @@ use lib.Seq.{length-take-le, take-append-add, drop-append-add, take-append-seam,
 use borrow.Rule.Slice.PartAt.{part-to-end}
 use borrow.Rule.Slice.PartMut.{putMid}
 use borrow.Author.Tests.{le-leb, lt-leb, leb-true, leb-false}
+use Rattle.branches.proofs.Branches.{either-way}
 use Rattle.store.specs.Store.{store, StoreKeepsLength, Stored}
-
-pub split : (b : Bool) → (b ≡ true) ⊎ (b ≡ false)
-split true = inl refl
-split false = inr refl
 
 -- the test by a difference is the test by a sum
 pub by-difference : (len at n : ℕ) → at ≤ len → leb n (len - at) ≡ leb (at + n) len
 by-difference len at n h =
-    ⊎-elim
-    (λ (t : leb n (len - at) ≡ true). t ∙ sym (le-leb (at + n) len (omega (arith, leb-true n (len - at) t))))
-    (λ (t : leb n (len - at) ≡ false). t ∙ sym (lt-leb (at + n) len (omega (arith, leb-false n (len - at) t))))
-    (split (leb n (len - at)))
+    either-way (leb n (len - at))
+    (λ t. t ∙ sym (le-leb (at + n) len (omega (arith, leb-true n (len - at) t))))
+    (λ t. t ∙ sym (lt-leb (at + n) len (omega (arith, leb-false n (len - at) t))))
 
 pub store-keeps-length : StoreKeepsLength
 store-keeps-length at bs buf h =
