@@ -1,4 +1,4 @@
-use Rattle.store.proofs.Choose.{choose}
+use Rattle.branches.proofs.Choose.{choose}
 use Rattle.report.proofs.bit.Statement.{statement}
 use Rattle.report.proofs.bit.Tie as tie
 

@@ -1,4 +1,4 @@
-use Rattle.store.proofs.Choose.{choose}
+use Rattle.branches.proofs.Choose.{choose}
 use borrow.Author.Needs.{needs}
 use Rattle.report.proofs.level.Statement.{statement}
 use Rattle.report.proofs.level.Tie as tie
