@@ -1,6 +1,6 @@
 -- The field test is kept by one half, and by any number of them.
 -- Assumes nothing.
-use mathlib.Core.Path.{_≡_, sym, ap, _∙_, subst}
+use mathlib.Core.Path.{_≡_, sym, ap, subst}
 use Prim.Native.Nat.{ℕ, zero, suc, _+_, _≤_}
 use native.Mathlib.Omega.{arith}
 use mathlib.Core.Bool.{Bool, true, false, not}
@@ -12,13 +12,13 @@ use Rattle.words.specs.Due.{due-now, due-or}
 use Rattle.sci.specs.Receiver.{arm-receive, advance-rx}
 use Rattle.sci.specs.Sender.{advance-tx}
 use Rattle.sci.specs.Clocked.{sync-needed, with-clock, refresh-sync-clock, receive-bit, sync-edge}
-use Rattle.words.specs.Receiver.{rx-due-on}
-use Rattle.sci.specs.Half.{process-basic, sync, clocked-edge, advance, half-step, halves}
+use Rattle.sci.specs.Half.{process-basic, clocked-edge, advance, half-step, halves}
 use Rattle.branches.proofs.Branches.{by-cond, both-arms}
+use Rattle.sci.proofs.OnePass.{one-pass}
 use Rattle.sci.proofs.SenderKeeps.{SenderClosed, free-sender, advance-tx-keeps, tail-keeps, shift-keeps}
-use Rattle.sci.proofs.ReceiverKeeps.{ReceiverClosed, free-receiver, refresh-keeps, arm-keeps, advance-rx-keeps, receive-bit-keeps, basic-keeps, sync-edge-keeps}
-use Rattle.laws.proofs.KeepSender.{DueMaybe, TxFits, Sends, later-maybe, advance-tx-sends, advance-tx-again, tail-ends-sends, shift-out-sends}
-use Rattle.laws.proofs.KeepReceiver.{Side, side-closed, side-arm, side-advance, advance-rx-again, side-receive-bit}
+use Rattle.sci.proofs.ReceiverKeeps.{ReceiverClosed, free-receiver, refresh-keeps, arm-keeps, advance-rx-keeps, receive-bit-keeps, basic-keeps, sync-edge-keeps, half-keeps}
+use Rattle.laws.proofs.KeepSender.{DueMaybe, TxFits, Sends, later-maybe, advance-tx-sends, tx-not-due, tail-ends-sends, shift-out-sends}
+use Rattle.laws.proofs.KeepReceiver.{Side, side-closed, side-arm, side-advance, rx-not-due, side-receive-bit}
 
 -- all but the clocked edge's due half
 pub record Ok (h : ℕ) (p : Port) : Type 0 where
@@ -47,12 +47,6 @@ basic-first h p t d =
       sends = advance-rx-keeps (Sends (suc h)) (sends-closed (suc h)) q (advance-tx-sends h p (d .at) t);
       side = side-advance h q (advance-tx-keeps (Side (suc h) h) (side-closed (suc h) h) p d);
     })
-
--- and again: nothing is due, so only a word may begin
-pub basic-again : (h : ℕ) (p : Port) → Ok h p → process-basic p ≡ arm-receive p
-unfolding process-basic
-basic-again h p o =
-    ap (λ (q : Port). arm-receive (advance-rx q)) (advance-tx-again h p (o .sends)) ∙ ap arm-receive (advance-rx-again h p (o .side))
 
 -- ---- the clock of clocked form
 -- with another clock level or due half nothing else changes
@@ -118,38 +112,32 @@ pub side-counted : (h : ℕ) (p : Port) → Side h h p → Side (suc h) h (count
 side-counted h p d =
     record { at = ap suc (d .at); fits = d .fits; began = omega (arith, d .began); flags = d .flags; seen-flags = d .seen-flags; stored = d .stored }
 
-kept-basic : (h : ℕ) (p : Port) → Kept h p → Ok (suc h) (process-basic (sync (counted p))) × DueNext h (process-basic (sync (counted p)))
-unfolding sync
-kept-basic h p k =
-    both-arms (λ (w : Port). Ok (suc h) (process-basic w) × DueNext h (process-basic w)) (rx-due-on (p .rx) (suc (p .half))) r q (
-      subst (Ok (suc h)) (sym (basic-again (suc h) r ok)) (ok-arm (suc h) r ok),
-      due-basic h r (due-refresh h (process-basic q) (omega (arith, first .sends .at)) (omega (arith, first .sends .at)) due),
-    )
-    (first, due)
-  where
-    q : Port
-    q = counted p
+module _ (h : ℕ) (p : Port) (k : Kept h p) (x : external p ≡ false) where
+  basic-ok : Ok (suc h) (process-basic (counted p))
+  basic-ok = basic-first h (counted p) (k .ok .sends .fits) (side-counted h p (k .ok .side))
 
-    first : Ok (suc h) (process-basic q)
-    first = basic-first h q (k .ok .sends .fits) (side-counted h p (k .ok .side))
+  -- the basic work on the way adds nothing
+  pub half-in-one : half-step p ≡ advance (counted p)
+  unfolding half-step
+  half-in-one =
+      let b : Port = process-basic (counted p) in
+      one-pass (counted p) (tx-not-due (suc h) b (basic-ok .sends)) (rx-not-due (suc h) b (basic-ok .side)) x
 
-    r : Port
-    r = refresh-sync-clock (process-basic q)
+  pub kept-half : Kept (suc h) (half-step p)
+  unfolding advance
+  kept-half =
+      let b : Port = process-basic (counted p) in
+      subst (Kept (suc h)) (sym half-in-one)
+      (kept-refresh (suc h) (clocked-edge b) (ok-clocked-edge (suc h) b basic-ok) (due-clocked-edge h b (basic-ok .sends .at) (due-basic h (counted p) (k .due))))
 
-    ok : Ok (suc h) r
-    ok = ok-refresh (suc h) (process-basic q) first
+-- a half does not change which clock runs
+pub external-half : (p : Port) → external p ≡ false → external (half-step p) ≡ false
+external-half p x =
+    let P : Port → Type 0 = λ (q : Port). external q ≡ false in
+    half-keeps P (free-sender P (λ q t u b s x k. k) (λ q n k. k)) (free-receiver P (λ q x s v n k. k)) (λ q d b k. k) (λ q k. k) p x
 
-    due : DueNext h (process-basic q)
-    due = due-basic h q (k .due)
-
-pub kept-half : (h : ℕ) (p : Port) → Kept h p → Kept (suc h) (half-step p)
-unfolding half-step advance
-kept-half h p k =
-    let b : Port = process-basic (sync (counted p)) in
-    let kb : Ok (suc h) b × DueNext h b = kept-basic h p k in
-    kept-refresh (suc h) (clocked-edge b) (ok-clocked-edge (suc h) b (kb .0)) (due-clocked-edge h b (kb .0 .sends .at) (kb .1))
-
-pub kept-halves : (n h : ℕ) (p : Port) → Kept h p → Kept (n + h) (halves n p)
+pub kept-halves : (n h : ℕ) (p : Port) → Kept h p → external p ≡ false → Kept (n + h) (halves n p)
 unfolding halves
-kept-halves zero h p k = let e : 0 + h ≡ h = omega arith in rw e k
-kept-halves (suc n) h p k = let e : suc n + h ≡ n + suc h = omega arith in rw e (kept-halves n (suc h) (half-step p) (kept-half h p k))
+kept-halves zero h p k x = let e : 0 + h ≡ h = omega arith in rw e k
+kept-halves (suc n) h p k x =
+    let e : suc n + h ≡ n + suc h = omega arith in rw e (kept-halves n (suc h) (half-step p) (kept-half h p k x) (external-half p x))

@@ -24,7 +24,7 @@ use Rattle.words.specs.declared.Sampled.the-variants.{Dropped, Onward, Whole}
 use Rattle.sci.specs.Fields.{with-rx, with-ssr}
 use Rattle.sci.specs.Baud.{format-of, next-fall}
 use Rattle.words.specs.Due.{due-now}
-use Rattle.words.specs.Receiver.{armed, started, stepped, next-position, sample-at, sample, last-bit, bit-taken, clocked-word}
+use Rattle.words.specs.Receiver.{armed, started, stepped, next-position, sample-at, sample, last-bit, bit-taken, clocked-word, rx-next}
 use Rattle.sci.specs.Receiver.{input-level, error-free, arms, arm-receive, arm-receive-on, complete-receive, after-sample, advance-rx, advance-rx-on}
 use Rattle.sci.specs.Clocked.{take-bit, receive-bit, receive-bit-on}
 use Rattle.branches.proofs.Branches.{by-cond, or-right}
@@ -195,15 +195,12 @@ side-advance h p d = go (p .rx) refl (d .fits)
         (record { format = f .format; place = f .place; error = f .error; due = later-by (r .format .synchronous) h (r .next) (f .due) (subst (λ (k : ℕ). due-now (r .next) k ≡ false) (d .at) b) }))
 
 -- the same half again: nothing is due
-pub advance-rx-again : (h : ℕ) (p : Port) → Side h h p → advance-rx p ≡ p
-unfolding advance-rx
-advance-rx-again h p d = go (p .rx) (d .fits)
+pub rx-not-due : (h : ℕ) (p : Port) → Side h h p → due-now (rx-next (p .rx)) (p .half) ≡ false
+rx-not-due h p d = go (p .rx) (d .fits)
   where
-    go : (x : Receiver) → RxFits h x → advance-rx-on x p ≡ p
+    go : (x : Receiver) → RxFits h x → due-now (rx-next x) (p .half) ≡ false
     go Idle f = refl
-    go (Busy r) f =
-        ap (λ (b : Bool). cond b (after-sample (sample (format-of p) (input-level p) (p .half) r) p) p)
-        (not-due h (p .half) (r .next) (d .at) (by-maybe (r .format .synchronous) h (r .next) (f .due)))
+    go (Busy r) f = not-due h (p .half) (r .next) (d .at) (by-maybe (r .format .synchronous) h (r .next) (f .due))
 
 -- ---- the clocked edge
 bit-good : (h : ℕ) (high : Bool) (r : Rx) → r .format .synchronous ≡ true → RxGood h r → last-bit (r .position) ≡ false → RxGood h (bit-taken high r)

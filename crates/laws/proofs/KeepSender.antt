@@ -1,6 +1,6 @@
 -- The field test is kept: the sender's part. Its state, read as facts against a half count h, holds after each of the sender's steps.
 -- Assumes nothing.
-use mathlib.Core.Path.{_≡_, refl, sym, ap, subst}
+use mathlib.Core.Path.{_≡_, refl, sym, subst}
 use mathlib.Core.Logic.{_≢_}
 use Prim.Native.Nat.{ℕ, suc, _+_, _-_, _*_, _%_, _≤_, _<_}
 use native.Mathlib.Omega.{arith}
@@ -27,7 +27,7 @@ use Rattle.sci.specs.Baud.{format-of, boundary}
 use Rattle.words.specs.Due.{due-now}
 use Rattle.sci.specs.Receiver.{error-free}
 use Rattle.words.specs.Sender.{level, holds, tx-next}
-use Rattle.sci.specs.Sender.{character, loaded, loaded-on, preloaded, preloaded-on, drive, begin, start-at, start-loaded, try-start, try-start-on, one-sent, finish-tail, next-cell, send-step-on, advance-tx, advance-tx-on}
+use Rattle.sci.specs.Sender.{character, loaded, loaded-on, preloaded, preloaded-on, drive, begin, start-at, start-loaded, try-start, try-start-on, one-sent, finish-tail, next-cell, advance-tx, advance-tx-on}
 use Rattle.sci.specs.Clocked.{tail-ends, tail-ends-on, bit-out, shift-out, shift-out-on}
 use Rattle.sci.specs.Registers.{load-tail, load-tail-on}
 use Rattle.words.specs.Valid.{character-valid}
@@ -259,10 +259,8 @@ tx-due h (Start ch n) f = f .1
 tx-due h (Data ch cell next) f = by-maybe (ch .format .synchronous) h next (f .2)
 tx-due h (Tail l next) f = f .1
 
-pub advance-tx-again : (h : ℕ) (p : Port) → Sends h p → advance-tx p ≡ p
-unfolding advance-tx
-advance-tx-again h p s =
-    ap (λ (b : Bool). cond b (send-step-on (p .tx) p) p) (not-due h (p .half) (tx-next (p .tx)) (s .at) (tx-due h (p .tx) (s .fits)))
+pub tx-not-due : (h : ℕ) (p : Port) → Sends h p → due-now (tx-next (p .tx)) (p .half) ≡ false
+tx-not-due h p s = not-due h (p .half) (tx-next (p .tx)) (s .at) (tx-due h (p .tx) (s .fits))
 
 -- ---- the clocked edge
 pub tail-ends-sends : (h : ℕ) (p : Port) → Sends h p → Sends h (tail-ends p)

@@ -31,6 +31,7 @@ use Rattle.sci.specs.Valid.{limit, registers-valid, valid}
 use Rattle.sci.specs.Calls.{Call, reads, writes, lets-pass, sets-line, sets-pins, sets-power, passes-inside, Answer, after, bit, called}
 use Rattle.frame.proofs.Laws.{without, without-test}
 use Rattle.branches.proofs.Branches.{by-cond, both-arms, or-true}
+use Rattle.sci.proofs.CallLaws.{internal-external}
 use Rattle.laws.proofs.KeepSender.{Ahead, DueBy, DueMaybe, GoodLoaded, cell-end, TxFits}
 use Rattle.laws.proofs.KeepReceiver.{last-position, PositionFits, RxFits, Storable, Side}
 use Rattle.laws.proofs.KeepHalf.{Kept, kept-halves}
@@ -233,9 +234,10 @@ call-sound (writes a v) p g =
     (λ ok. by-cond SoundAfter (eqb a 0xffa7 && leb 128 v) _ _ (λ b. g) (λ b. sound-at (p .half) (write a v p) (g .low) (write-kept a v (p .half) p ok b (g .kept)))) (λ ok. g)) g
 call-sound (lets-pass n) p g =
     both-arms SoundAfter (leb n 65535) _ _
-    (both-arms SoundAfter (internal p) _ _
-    (by-cond SoundAfter (leb (p .half + n) limit) _ _ (λ b. sound-at (n + p .half) (halves n p) (omega (arith, leb-true (p .half + n) limit b)) (kept-halves n (p .half) p (g .kept))) (λ b. g))
-    (sound-at (p .half) (uncounted n p) (g .low) (uncounted-kept (p .half) p (g .kept) n))) g
+    (by-cond SoundAfter (internal p) _ _
+    (λ i. by-cond SoundAfter (leb (p .half + n) limit) _ _
+    (λ b. sound-at (n + p .half) (halves n p) (omega (arith, leb-true (p .half + n) limit b)) (kept-halves n (p .half) p (g .kept) (internal-external p i))) (λ b. g))
+    (λ i. sound-at (p .half) (uncounted n p) (g .low) (uncounted-kept (p .half) p (g .kept) n))) g
 call-sound (sets-line line) p g =
     both-arms SoundAfter (leb line 1) _ _ (sound-at (p .half) (receive-input (bit line) p) (g .low) (line-kept (p .half) p (g .kept) (bit line))) g
 call-sound (sets-pins clock line) p g =

@@ -8,12 +8,11 @@ use mathlib.Core.Bool.{true, false, not, _&&_, true≢false}
 use mathlib.Core.List.{List, [], _∷_}
 use lib.Dec.{eqb, leb}
 use Rattle.frame.specs.Frame.{has}
-use Rattle.frame.proofs.Truth.{and-right}
 use Rattle.sci.specs.declared.Port.{Port}
 use Rattle.words.specs.declared.Loaded.{Loaded}
 use Rattle.words.specs.declared.Loaded.the-variants.{Nothing, Next}
 use Rattle.sci.specs.Power.{fresh}
-use Rattle.sci.specs.Baud.{external, running, internal, edge-counts}
+use Rattle.sci.specs.Baud.{external, internal, edge-counts}
 use Rattle.sci.specs.Receiver.{error-free, complete-receive}
 use Rattle.sci.specs.Sender.{one-sent, finish-tail}
 use Rattle.sci.specs.Registers.{handles}
@@ -21,8 +20,8 @@ use Rattle.sci.specs.Pins.{pins-change}
 use Rattle.sci.specs.Valid.{limit, valid}
 use Rattle.sci.specs.Calls.{Call, reads, writes, lets-pass, sets-line, sets-pins, sets-power, passes-inside, Answer, done, refused, after, refuse, bit, called, direct, run}
 use Rattle.laws.specs.Laws.{Fresh-passes, Keeps-field-test, Accepted-passes, Grown-passes, Never-refused-by-8, One-of, Refused-stands, Tallies-wrap, Whole-word-counts, Tail-end-counts, Half-counts, Pin-edge-counts, Call-counts, Tallies-count, receives, finishes, in-calls}
-use borrow.Author.Tests.{not-true}
 use Rattle.branches.proofs.Branches.{by-cond, both-arms}
+use Rattle.sci.proofs.CallLaws.{internal-external}
 use Rattle.sci.proofs.SenderKeeps.{StartClosed, free-start, begin-keeps, try-keeps}
 use Rattle.laws.proofs.KeepHalf.{Kept}
 use Rattle.laws.proofs.KeepValid.{valid-sound, sound-valid, fresh-sound, call-sound}
@@ -182,7 +181,7 @@ pub half-counts : Half-counts
 unfolding Half-counts
 half-counts p e i =
     let k : Kept (p .half) p = valid-sound p e .kept in
-    let x : external p ≡ false = not-true (external p) (and-right (running p) (not (external p)) i) in
+    let x : external p ≡ false = internal-external p i in
     (half-receives (p .half) p k x, half-finishes (p .half) p k x)
 
 pub pin-edge-counts : Pin-edge-counts

@@ -8,10 +8,9 @@ use mathlib.Core.List.{List, [], _∷_}
 use lib.Dec.{eqb, leb, lit<}
 use lib.Bits.{bitAnd}
 use Rattle.frame.specs.Frame.{has, differ, one-if}
-use Rattle.frame.proofs.Truth.{and-right}
 use Rattle.sci.specs.declared.Port.{Port}
 use Rattle.sci.specs.Fields.{with-scr, with-input}
-use Rattle.sci.specs.Baud.{format-of, external, running, internal, edge-counts}
+use Rattle.sci.specs.Baud.{format-of, external, internal, edge-counts}
 use Rattle.sci.specs.Receiver.{arm-receive}
 use Rattle.words.specs.Sender.{holds}
 use Rattle.sci.specs.Sender.{try-start}
@@ -22,11 +21,11 @@ use Rattle.sci.specs.Pins.{receive-input, external-edge, pins-change, input-pin
 use Rattle.sci.specs.Valid.{limit, valid}
 use Rattle.sci.specs.Calls.{Call, reads, writes, lets-pass, sets-line, sets-pins, sets-power, passes-inside, Answer, after, refuse, bit, called, direct, run}
 use Rattle.laws.specs.Laws.{wrap, tally, grown, finishes, receives, rises, in-halves, pins-set, in-call, in-calls}
-use borrow.Author.Tests.{not-true}
 use Rattle.branches.proofs.Branches.{by-cond, both-arms}
-use Rattle.sci.proofs.SenderKeeps.{StartClosed, free-start, free-sender, try-keeps, load-tail-keeps}
-use Rattle.sci.proofs.ReceiverKeeps.{free-receiver, refresh-keeps, arm-keeps, half-keeps}
-use Rattle.laws.proofs.KeepHalf.{Kept, kept-half}
+use Rattle.sci.proofs.CallLaws.{internal-external}
+use Rattle.sci.proofs.SenderKeeps.{StartClosed, free-start, try-keeps, load-tail-keeps}
+use Rattle.sci.proofs.ReceiverKeeps.{refresh-keeps, arm-keeps}
+use Rattle.laws.proofs.KeepHalf.{Kept, kept-half, external-half}
 use Rattle.laws.proofs.KeepCalls.{pins-set-kept}
 use Rattle.laws.proofs.KeepValid.{valid-sound}
 use Rattle.laws.proofs.TallyHalf.{edge-finishes, edge-receives}
@@ -70,11 +69,6 @@ grown-one : (b : Bool) (t : ℕ) → tally b t ≡ grown (one-if b) t
 unfolding grown
 grown-one true t = refl
 grown-one false t = refl
-
-internal-kept : (p : Port) → internal p ≡ true → internal (half-step p) ≡ true
-internal-kept p i =
-    let P : Port → Type 0 = λ (q : Port). internal q ≡ true in
-    half-keeps P (free-sender P (λ q t u b s x k. k) (λ q n k. k)) (free-receiver P (λ q x s v n k. k)) (λ q d b k. k) (λ q k. k) p i
 
 -- ---- calls that leave both as they were
 stored-stood : (a v : ℕ) (p : Port) → Stood p (stored a v p)
@@ -130,12 +124,11 @@ uncounted-stood (suc n) p = (refl, refl)
 module _ (field : Port → ℕ) (f : Bool → Port → Bool) (stands : (p q : Port) → Stood p q → field q ≡ field p)
     (half : (h : ℕ) (p : Port) → Kept h p → external p ≡ false → field (half-step p) ≡ tally (f (rises p) p) (field p))
     (edge : (level : Bool) (h : ℕ) (p : Port) → Kept h p → field (external-edge level p) ≡ tally (edge-counts level p && f level p) (field p)) where
-  halves-count : (n h : ℕ) (p : Port) → Kept h p → internal p ≡ true → field (halves n p) ≡ grown (in-halves f n p) (field p)
+  halves-count : (n h : ℕ) (p : Port) → Kept h p → external p ≡ false → field (halves n p) ≡ grown (in-halves f n p) (field p)
   unfolding halves in-halves grown
-  halves-count zero h p k i = refl
-  halves-count (suc n) h p k i =
-      let x : external p ≡ false = not-true (external p) (and-right (running p) (not (external p)) i) in
-      halves-count n (suc h) (half-step p) (kept-half h p k) (internal-kept p i)
+  halves-count zero h p k x = refl
+  halves-count (suc n) h p k x =
+      halves-count n (suc h) (half-step p) (kept-half h p k x) (external-half p x)
       ∙ ap (grown (in-halves f n (half-step p))) (half h p k x ∙ grown-one (f (rises p) p) (field p))
       ∙ grown-grown (one-if (f (rises p) p)) (in-halves f n (half-step p)) (field p)
 
@@ -168,7 +161,7 @@ module _ (field : Port → ℕ) (f : Bool → Port → Bool) (stands : (p q : Po
       let C : Answer → Type 0 = Counts (lets-pass n) p in
       let e : Bool → ℕ = λ (b : Bool). grown (cond b (in-halves f n p) 0) (field p) in
       both-arms C (leb n 65535) _ _
-      (by-cond C (internal p) _ _ (λ i. both-arms C (leb (p .half + n) limit) _ _ (halves-count n (p .half) p k i ∙ sym (ap e i)) refl) (λ i. stands p (uncounted n p) (uncounted-stood n p) ∙ sym (ap e i)))
+      (by-cond C (internal p) _ _ (λ i. both-arms C (leb (p .half + n) limit) _ _ (halves-count n (p .half) p k (internal-external p i) ∙ sym (ap e i)) refl) (λ i. stands p (uncounted n p) (uncounted-stood n p) ∙ sym (ap e i)))
       refl
   called-counts (sets-line line) p k = both-arms (Counts (sets-line line) p) (leb line 1) _ _ (stands p (receive-input (bit line) p) (line-stood (bit line) p)) refl
   called-counts (sets-pins clock line) p k =

@@ -264,12 +264,12 @@ order r l e a f n =
     (by-table 6 (λ (r l e a f n : Bool). Bool·beq (r && ((l && (true && e)) && ((a && f) && n))) ((r && (a && (f && (l && e)))) && n)) refl r l e a f n)
 
 -- both together: the sample that is due, or the last bit at the rising edge. p is the port before the half, b after its basic work
-pub received-once : (h : ℕ) (p b : Port) (r r′ : Bool) → RxFits h (p .rx)
+pub received-once : (h : ℕ) (p b : Port) (r : Bool) → RxFits h (p .rx)
     → Got (tally (sampled (p .rx) (format-of p) (input-level p) (suc (p .half)) && not (has (p .ssr) 0x40)) (p .received)) b
     → Last (last-clocked (p .rx)) b
-    → (Last true p → (r ≡ r′) × (ready b ≡ ready p))
-    → tally (r && (last-clocked (b .rx) && ready b)) (b .received) ≡ tally (receives r′ p) (p .received)
-received-once h p b r r′ fits got last same =
+    → (Last true p → ready b ≡ ready p)
+    → tally (r && (last-clocked (b .rx) && ready b)) (b .received) ≡ tally (receives r p) (p .received)
+received-once h p b r fits got last same =
     ap₂ (λ (l : Bool) (m : ℕ). tally (r && (l && ready b)) m) last got ∙ ap (λ (c : Bool). tally c (tally (S && N) R)) (at (last-clocked (p .rx)) refl) ∙ go (p .rx) fits
   where
     S : Bool
@@ -281,28 +281,28 @@ received-once h p b r r′ fits got last same =
     R : ℕ
     R = p .received
 
-    at : (l : Bool) → last-clocked (p .rx) ≡ l → (r && (l && ready b)) ≡ (r′ && (l && ready p))
-    at true e = let s : (r ≡ r′) × (ready b ≡ ready p) = same e in ap₂ (λ (x y : Bool). x && y) (s .0) (s .1)
-    at false e = and-false r ∙ sym (and-false r′)
+    at : (l : Bool) → last-clocked (p .rx) ≡ l → (r && (l && ready b)) ≡ (r && (l && ready p))
+    at true e = ap (λ (y : Bool). r && y) (same e)
+    at false e = refl
 
-    none : (m : ℕ) → tally (r′ && false) m ≡ m
-    none m = ap (λ (c : Bool). tally c m) (and-false r′)
+    none : (m : ℕ) → tally (r && false) m ≡ m
+    none m = ap (λ (c : Bool). tally c m) (and-false r)
 
     busy : (x : Rx) (s : Bool) → x .format .synchronous ≡ s → RxGood h x
-        → tally (r′ && ((last-bit (x .position) && (s && eqb (x .error) 0)) && ready p)) (tally (sampled (Busy x) (format-of p) (input-level p) (suc (p .half)) && N) R)
-        ≡ tally (cond s (r′ && (has (p .scr) 0x10 && (error-free p && (last-bit (x .position) && eqb (x .error) 0)))) (sampled (Busy x) (format-of p) (input-level p) (suc (p .half))) && N) R
+        → tally (r && ((last-bit (x .position) && (s && eqb (x .error) 0)) && ready p)) (tally (sampled (Busy x) (format-of p) (input-level p) (suc (p .half)) && N) R)
+        ≡ tally (cond s (r && (has (p .scr) 0x10 && (error-free p && (last-bit (x .position) && eqb (x .error) 0)))) (sampled (Busy x) (format-of p) (input-level p) (suc (p .half))) && N) R
     busy x true e f =
         let idle : due-now (x .next) (suc (p .half)) ≡ false = waits (x .next) (f .due) in
-        ap (λ (d : Bool). tally (r′ && ((last-bit (x .position) && (true && eqb (x .error) 0)) && ready p)) (tally ((d && clean (sample (format-of p) (input-level p) (suc (p .half)) x)) && N) R)) idle
-        ∙ ap (λ (c : Bool). tally c R) (order r′ (last-bit (x .position)) (eqb (x .error) 0) (has (p .scr) 0x10) (error-free p) N)
+        ap (λ (d : Bool). tally (r && ((last-bit (x .position) && (true && eqb (x .error) 0)) && ready p)) (tally ((d && clean (sample (format-of p) (input-level p) (suc (p .half)) x)) && N) R)) idle
+        ∙ ap (λ (c : Bool). tally c R) (order r (last-bit (x .position)) (eqb (x .error) 0) (has (p .scr) 0x10) (error-free p) N)
       where
         waits : (d : Due) → DueBy (x .format .synchronous) h d → due-now d (suc (p .half)) ≡ false
         waits Never g = refl
         waits (At n) g = absurd (true≢false (sym e ∙ g .0))
     busy x false e f =
-        ap (λ (c : Bool). tally (r′ && (c && ready p)) (tally (sampled (Busy x) (format-of p) (input-level p) (suc (p .half)) && N) R)) (and-false (last-bit (x .position)))
+        ap (λ (c : Bool). tally (r && (c && ready p)) (tally (sampled (Busy x) (format-of p) (input-level p) (suc (p .half)) && N) R)) (and-false (last-bit (x .position)))
         ∙ none (tally (sampled (Busy x) (format-of p) (input-level p) (suc (p .half)) && N) R)
 
-    go : (x : Receiver) → RxFits h x → tally (r′ && (last-clocked x && ready p)) (tally (sampled x (format-of p) (input-level p) (suc (p .half)) && N) R) ≡ tally (completes-on x r′ p && N) R
+    go : (x : Receiver) → RxFits h x → tally (r && (last-clocked x && ready p)) (tally (sampled x (format-of p) (input-level p) (suc (p .half)) && N) R) ≡ tally (completes-on x r p && N) R
     go Idle f = none R
     go (Busy x) f = busy x (x .format .synchronous) refl f

@@ -166,17 +166,17 @@ edge-sent true p =
 edge-sent false p = shift-keeps (Sent (p .transmitted)) (start-sent (p .transmitted)) p refl
 
 -- both together: the tail's due half, or the rising edge
-pub sent-once : (t : Tx) (r r′ : Bool) (half n : ℕ) → (clocked-tail t ≡ true → r ≡ r′) → tally (r && clocked-tail t) (tally (finishes-on t false half) n) ≡ tally (finishes-on t r′ half) n
-sent-once t r r′ half n e = go t e
+pub sent-once : (t : Tx) (r : Bool) (half n : ℕ) → tally (r && clocked-tail t) (tally (finishes-on t false half) n) ≡ tally (finishes-on t r half) n
+sent-once t r half n = go t
   where
     none : (m : ℕ) → tally (r && false) m ≡ m
     none m = ap (λ (b : Bool). tally b m) (and-false r)
 
-    go : (t : Tx) → (clocked-tail t ≡ true → r ≡ r′) → tally (r && clocked-tail t) (tally (finishes-on t false half) n) ≡ tally (finishes-on t r′ half) n
-    go Off e = none n
-    go (Blocked ch) e = none n
-    go (Mark next) e = none n
-    go (Start ch next) e = none n
-    go (Data ch cell next) e = none n
-    go (Tail l Never) e = ap (λ (b : Bool). tally b n) (and-true r ∙ e refl)
-    go (Tail l (At k)) e = none (tally (eqb k half) n)
+    go : (t : Tx) → tally (r && clocked-tail t) (tally (finishes-on t false half) n) ≡ tally (finishes-on t r half) n
+    go Off = none n
+    go (Blocked ch) = none n
+    go (Mark next) = none n
+    go (Start ch next) = none n
+    go (Data ch cell next) = none n
+    go (Tail l Never) = ap (λ (b : Bool). tally b n) (and-true r)
+    go (Tail l (At k)) = none (tally (eqb k half) n)

@@ -8,7 +8,7 @@ use mathlib.Core.List.{List, [], _∷_, _++_}
 use lib.Dec.{eqb, leb}
 use lib.Bits.{bitAnd}
 use lib.ListN.{length}
-use borrow.Author.Tests.{eqb-true, not-true}
+use borrow.Author.Tests.{eqb-true}
 use Rattle.sci.specs.Calls.{run as port-run, Answer, Call, after, bit, called, direct, done, lets-pass, passes-inside, reads, refuse, sets-line, sets-pins, sets-power, writes}
 use Rattle.words.specs.declared.Due.the-variants.{Never}
 use Rattle.sci.specs.declared.Port.{Port}
@@ -18,7 +18,7 @@ use Rattle.words.specs.declared.Rx.{Rx}
 use Rattle.frame.proofs.Truth.{and-right}
 use Rattle.frame.proofs.Laws.{clear-of}
 use Rattle.frame.specs.Frame.{differ, format, has}
-use Rattle.sci.specs.Baud.{counted, edge-counted, edge-counts, external, format-of, internal, running}
+use Rattle.sci.specs.Baud.{counted, edge-counted, edge-counts, external, format-of, internal}
 use Rattle.words.specs.Receiver.{bit-taken, clocked-word, last-bit, rx-clocked}
 use Rattle.sci.specs.Clocked.{receive-bit, receive-bit-on, refresh-sync-clock, sync-edge, take-bit, with-clock}
 use Rattle.sci.specs.Fields.{with-input, with-input-clock, with-rx}
@@ -32,6 +32,7 @@ use Rattle.words.specs.Sender.{holds}
 use Rattle.sci.specs.Sender.{try-start}
 use Rattle.sci.specs.Valid.{limit, valid}
 use Rattle.branches.proofs.Branches.{by-cond}
+use Rattle.sci.proofs.CallLaws.{internal-external}
 use Rattle.recovery.specs.Line.{Event, Item, half-passes, none-yet, other, prefix, rdr-read, signal}
 use Rattle.recovery.specs.Recovery.{Holds, Moment, allowed-in-words, level-of, levels, one-moment, separated, throughout}
 use Rattle.recovery.proofs.Bounds.{Fits, advance-quiet, by-clock, format-sound}
@@ -200,7 +201,7 @@ resting-tail was left s r =
     rc : Resting left c
     rc =
         by-cond (Resting left) (not was && external s) _ s
-        (λ e. absurd (true≢false (sym (and-right (not was) (external s) e) ∙ not-true (external s) (and-right (running s) (not (external s)) (r .runs)))))
+        (λ e. absurd (true≢false (sym (and-right (not was) (external s) e) ∙ internal-external s (r .runs))))
         (λ e. r)
 
 resting-write-ssr : (v left : ℕ) (p : Port) → Resting left p → Resting left (write 0xff9c v p)

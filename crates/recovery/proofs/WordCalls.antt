@@ -2,14 +2,13 @@
 -- Assumes nothing.
 use mathlib.Core.Path.{_≡_, refl, sym, ap, _∙_, subst}
 use Prim.Native.Nat.{ℕ, zero, suc, _+_, _≤_, _<_}
-use mathlib.Core.Bool.{Bool, true, false, cond, not, _&&_, _||_, true≢false, false≢true}
+use mathlib.Core.Bool.{Bool, true, false, cond, _&&_, _||_, true≢false, false≢true}
 use mathlib.Core.List.{List, [], _∷_, _++_}
 use lib.Dec.{eqb, leb}
 use lib.Bits.{bitAnd}
-use borrow.Author.Tests.{eqb-true, not-true}
+use borrow.Author.Tests.{eqb-true}
 use Rattle.frame.specs.declared.Format.{Format}
 use Rattle.sci.specs.declared.Port.{Port}
-use Rattle.frame.proofs.Truth.{and-right}
 use Rattle.frame.specs.Frame.{differ, has}
 use Rattle.sci.specs.Baud.{edge-counted, edge-counts, external, format-of, internal, running}
 use Rattle.sci.specs.Calls.{Answer, Call, after, bit, called, direct, done, lets-pass, passes-inside, reads, refuse, sets-line, sets-pins, sets-power, writes}
@@ -22,6 +21,7 @@ use Rattle.sci.specs.Receiver.{arm-receive, input-level}
 use Rattle.sci.specs.Registers.{handles, peek, read, write}
 use Rattle.sci.specs.Valid.{limit, valid}
 use Rattle.branches.proofs.Branches.{by-cond}
+use Rattle.sci.proofs.CallLaws.{internal-external}
 use Rattle.laws.proofs.Masks.{and-and}
 use Rattle.recovery.specs.Line.{Count, Event, Item, count-after, half-passes, other, rdr-read}
 use Rattle.recovery.specs.Recovery.{Holds, Moment, allowed-in-words, answer-is, completes, levels, one-moment, read-before, separated, throughout}
@@ -50,7 +50,7 @@ by-line P b p t u =
 
 -- on the internal clock no edge of the pin counts
 pub no-edge : (c : Bool) (q : Port) → internal q ≡ true → edge-counts c q ≡ false
-no-edge c q e = go (running q) (external q) (differ (q .high) c) (not-true (external q) (and-right (running q) (not (external q)) e))
+no-edge c q e = go (running q) (external q) (differ (q .high) c) (internal-external q e)
   where
     go : (a b d : Bool) → b ≡ false → (a && (b && d)) ≡ false
     go true true d h = absurd (true≢false h)

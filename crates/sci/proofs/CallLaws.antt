@@ -30,8 +30,11 @@ pub flag-half : (r : Bool) (p : Port) → r ≡ valid p → r ≡ true → p .ha
 flag-half r p e t = flag-ready r p e t .half≤
 
 -- halves pass on the internal clock
+pub internal-external : (p : Port) → internal p ≡ true → external p ≡ false
+internal-external p i = not-true (external p) (and-right (running p) (not (external p)) i)
+
 pub flag-internal : (r : Bool) (p : Port) → r ≡ internal p → r ≡ true → external p ≡ false
-flag-internal r p e t = not-true (external p) (and-right (running p) (not (external p)) (sym e ∙ t))
+flag-internal r p e t = internal-external p (sym e ∙ t)
 
 -- an edge that passed test 4 has room
 pub edge-room : (f clock : Bool) (p : Port) → f ≡ (edge-counts clock p && leb limit (p .half)) → f ≡ false → edge-counts clock p ≡ true → p .half < limit

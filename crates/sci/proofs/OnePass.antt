@@ -115,7 +115,7 @@ refresh-still p x f = cond-false (external p) _ _ x ∙ go (sync-needed p) f
         ap₂ (with-clock p) (sym (absent-never (p .«sync_next») (and-left a (p .sck) e))) (sym (and-right a (p .sck) e))
 
 -- ---- after the sender's step it is not due again at this half
-abbrev Sent : ℕ → Port → Type 0
+abbrev pub Sent : ℕ → Port → Type 0
 Sent h q = due-now (tx-next (q .tx)) h ≡ false
 
 ahead : (h k : ℕ) → 1 ≤ k → eqb (h + k) h ≡ false
@@ -177,7 +177,7 @@ module _ {n : ℕ} {p : Port} (r : Ready n p) where
       go (Tail l next) s e = finish-sent l p s
 
 -- ---- nor is the receiver
-abbrev Taken : ℕ → Port → Type 0
+abbrev pub Taken : ℕ → Port → Type 0
 Taken h q = due-now (rx-next (q .rx)) h ≡ false
 
 abbrev TakenBy : ℕ → Sampled → Type 0
@@ -243,11 +243,7 @@ arm-done p = go (p .rx) refl
     go Idle e = by-cond None (arms p) _ _ (λ a. refl) (λ a. ap (λ (y : Receiver). arms-on y p) e ∙ a)
     go (Busy r) e = ap (λ (y : Receiver). arms-on y p) e
 
--- ---- so the basic work changes nothing more, whatever the clock of clocked form
-arms-clock : (x : Receiver) (p : Port) (d : Due) (b : Bool) → arms-on x (with-clock p d b) ≡ arms-on x p
-arms-clock Idle p d b = refl
-arms-clock (Busy r) p d b = refl
-
+-- ---- so after the basic work neither is due
 module _ {n : ℕ} {p : Port} (r : Ready n p) where
   same-half : (q : Port) → Ready n q → p .half ≡ q .half
   same-half q k = r .half≡ ∙ sym (k .half≡)
@@ -268,15 +264,6 @@ module _ {n : ℕ} {p : Port} (r : Ready n p) where
       let kt : Ready n t = keep-advance-tx r in
       let k : Taken (w .half) w = ap (λ (h : ℕ). due-now (rx-next (w .rx)) h) (keep-advance-rx kt .half≡ ∙ sym (kt .half≡)) ∙ step-taken kt in
       ap (λ (h : ℕ). due-now (rx-next (process-basic p .rx)) h) (keep-process-basic r .half≡ ∙ sym (keep-advance-rx kt .half≡)) ∙ arm-taken w k
-
-  basic-armed : arms-on (process-basic p .rx) (process-basic p) ≡ false
-  unfolding process-basic
-  basic-armed = arm-done (advance-rx (advance-tx p))
-
-  basic-again : (d : Due) (b : Bool) → process-basic (with-clock (process-basic p) d b) ≡ with-clock (process-basic p) d b
-  basic-again d b =
-      let q : Port = process-basic p in
-      basic-still (with-clock q d b) basic-sent basic-taken (arms-clock (q .rx) q d b ∙ basic-armed)
 
 -- ---- the clock of clocked form, planned twice
 -- an edge of it does nothing where nothing needs it
@@ -360,21 +347,33 @@ planned-once p x = go (sync-needed p) refl
         let q : Port = with-clock p Never true in
         ap both (refresh-idle p x e) ∙ ap refresh-sync-clock (edge-still q refl) ∙ refresh-idle q x e ∙ sym (edge-idle p x e)
 
--- ---- a half's work, in one pass
-module _ {n : ℕ} {p : Port} (r : Ready n p) (x : external p ≡ false) where
-  one-pass : advance (sync p) ≡ advance p
+-- ---- a half's work, in one pass, where after the basic work neither sender nor receiver is due
+arms-clock : (x : Receiver) (p : Port) (d : Due) (b : Bool) → arms-on x (with-clock p d b) ≡ arms-on x p
+arms-clock Idle p d b = refl
+arms-clock (Busy r) p d b = refl
+
+basic-armed : (p : Port) → arms-on (process-basic p .rx) (process-basic p) ≡ false
+unfolding process-basic
+basic-armed p = arm-done (advance-rx (advance-tx p))
+
+module _ (p : Port) (sent : Sent (process-basic p .half) (process-basic p)) (taken : Taken (process-basic p .half) (process-basic p)) where
+  -- the basic work changes nothing more, whatever the clock of clocked form
+  basic-again : (d : Due) (b : Bool) → process-basic (with-clock (process-basic p) d b) ≡ with-clock (process-basic p) d b
+  basic-again d b = basic-still (with-clock (process-basic p) d b) sent taken (arms-clock (process-basic p .rx) (process-basic p) d b ∙ basic-armed p)
+
+  pub one-pass : external p ≡ false → advance (sync p) ≡ advance p
   unfolding advance sync
-  one-pass =
+  one-pass x =
       let b : Port = process-basic p in
       let P : Port → Type 0 = λ (q : Port). external q ≡ false in
       let y : P b = basic-keeps P (free-sender P (λ q t u b s x k. k) (λ q n k. k)) (free-receiver P (λ q x s v n k. k)) p x in
       by-cond (λ (q : Port). refresh-sync-clock (clocked-edge (process-basic q)) ≡ refresh-sync-clock (clocked-edge b)) (rx-due-on (p .rx) (p .half)) _ p
-      (λ d. ap (λ (q : Port). refresh-sync-clock (clocked-edge q)) (refresh-any (λ (q : Port). process-basic q ≡ q) b (basic-again r)) ∙ planned-once b y)
+      (λ d. ap (λ (q : Port). refresh-sync-clock (clocked-edge q)) (refresh-any (λ (q : Port). process-basic q ≡ q) b basic-again) ∙ planned-once b y)
       (λ d. refl)
 
 pub half-once : {n : ℕ} {p : Port} → Ready n p → n < limit → external p ≡ false → half-step p ≡ advance (counted p)
 unfolding half-step
-half-once r h x = one-pass (keep-counted r h) x
+half-once {p = p} r h x = let k = keep-counted r h in one-pass (counted p) (basic-sent k) (basic-taken k) x
 
 -- of every port that passes the field test
 pub valid-once : (p : Port) → valid p ≡ true → p .half < limit → external p ≡ false → half-step p ≡ advance (counted p)
