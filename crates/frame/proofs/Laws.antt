@@ -3,12 +3,12 @@
 use mathlib.Core.Path.{_≡_, refl, ap, _∙_}
 use mathlib.Core.Logic.{_⊎_, inl, inr}
 use mathlib.Core.Bool.{true, false, not}
-use Prim.Native.Nat.{ℕ, zero, suc, _+_, _*_, _-_, _/_, _%_, _^_, _≤_, _<_}
+use Prim.Native.Nat.{ℕ, zero, suc, _+_, _*_, _/_, _%_, _^_, _≤_, _<_}
 use native.Mathlib.Nat.{mod-eq-of-lt, mod-lt, one-mul, lt-of-le-of-lt}
 use native.Mathlib.Omega.{arith}
 use lib.Dec.{eqb, lit<}
 use lib.Pow.{pow-mono, shl-exact, field, mod-mod-pow}
-use lib.Bits.{bitAnd, bitOr, or-shifted, or-shifted-r, and-mask}
+use lib.Bits.{bitAnd, bitOr, or-shifted-r, and-mask}
 use lib.Count.{ones, ones-step}
 use borrow.Author.Tests.{eqb-true, eq-eqb, not-true, not-false}
 use Rattle.frame.specs.Frame.{has, differ, one-if}
@@ -29,13 +29,9 @@ one-shl n h =
     ap (λ (x : ℕ). x % 65536) (one-mul (2 ^ n))
     ∙ mod-eq-of-lt (lt-of-le-of-lt (pow-mono h) (lit< tt))
 
--- a shift whose result fits 16 bits, with a number of k bits below it, or above that number
-module _ (j k a b : ℕ) (ha : a < 2 ^ j) (hb : b < 2 ^ k) (h : j + k ≤ 16) where
-  pub joined : bitOr ((a * 2 ^ k) % 65536) b ≡ a * 2 ^ k + b
-  joined = ap (λ (x : ℕ). bitOr x b) (shl-exact j k 16 ha h) ∙ or-shifted a k b hb
-
-  pub stacked : bitOr b ((a * 2 ^ k) % 65536) ≡ a * 2 ^ k + b
-  stacked = ap (bitOr b) (shl-exact j k 16 ha h) ∙ or-shifted-r a k b hb
+-- a number of k bits, with another above it whose shift fits 16 bits
+pub stacked : (j k a b : ℕ) → a < 2 ^ j → b < 2 ^ k → j + k ≤ 16 → bitOr b ((a * 2 ^ k) % 65536) ≡ a * 2 ^ k + b
+stacked j k a b ha hb h = ap (bitOr b) (shl-exact j k 16 ha h) ∙ or-shifted-r a k b hb
 
 -- a remainder by two is 0 or 1
 pub two : (n : ℕ) → (n % 2 ≡ 0) ⊎ (n % 2 ≡ 1)
