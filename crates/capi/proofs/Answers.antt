@@ -16,9 +16,9 @@ use Rattle.sci.specs.declared.Refusal.{Refusal}
 use Rattle.sci.specs.Calls.{Call, Answer, direct, answer, answer-of, number}
 use Rattle.sci.specs.Pins.{pins, interrupt, level-number}
 use Rattle.player.specs.declared.Played.{Played}
-use Rattle.player.specs.Play.{Run, play, end-number, end-offset, ran}
+use Rattle.player.specs.Play.{play, end-number, end-offset, ran}
 use Rattle.capi.specs.State.{a-port, nothing, decode, encode, port-max, port-in, fits}
-use Rattle.capi.specs.Exports.{Lent, lent, refusal, command, answered, call-on, call, clock-number, pins-number, pins-on, pins-answer, interrupt-on, interrupt-answer, Playing, playing, run-left, play-on, played}
+use Rattle.capi.specs.Exports.{Lent, lent, refusal, command, answered, call-on, call, clock-number, pins-number, pins-on, pins-answer, interrupt-on, interrupt-answer, playing, run-left, play-on, played}
 
 -- ---- what the array holds, by the flag that the test gave
 decoded : (f : Bool) (s : List ℕ) → f ≡ fits port-max s → f ≡ true → decode s ≡ a-port (port-in s)

@@ -1,11 +1,10 @@
 -- A run writes no more than the log holds, and the log keeps its length.
 -- Assumes nothing.
 use mathlib.Core.Path.{_≡_, refl}
-use mathlib.Core.Bool.{cond, true, false}
 use mathlib.Core.List.{List, [], _∷_}
 use Prim.Native.Nat.{ℕ, _≤_}
 use native.Mathlib.Omega.{arith}
-use lib.ListN.{length, drop, length-append, length-drop}
+use lib.ListN.{length, drop, length-drop}
 use lib.Dec.{ltb}
 use borrow.Author.Tests.{ltb-false}
 use Rattle.sci.specs.declared.Port.{Port}
@@ -14,7 +13,7 @@ use Rattle.sci.specs.Valid.{valid}
 use Rattle.script.specs.declared.Command.{Command}
 use Rattle.script.specs.Items.{Item, call, stop, items}
 use Rattle.branches.proofs.Branches.{by-cond}
-use Rattle.player.specs.Play.{Run, call-of, record-length, record-of, ended, recorded, answered, play-items, play}
+use Rattle.player.specs.Play.{Run, call-of, record-length, ended, answered, play-items, play}
 
 pub record Within (log : List ℕ) (r : Run) : Type 0 where
   pub used : r .used ≤ length log

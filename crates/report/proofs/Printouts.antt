@@ -2,12 +2,12 @@
 -- Assumes nothing.
 use mathlib.Core.Path.{_≡_, refl, sym, ap, _∙_}
 use mathlib.Core.Bool.{false}
-use mathlib.Core.List.{List, [], _∷_, _++_, append-assoc, append-nil}
+use mathlib.Core.List.{List, [], _++_, append-assoc, append-nil}
 use Prim.Native.Nat.{ℕ, zero, suc, _+_, _*_, _/_, _≤_, _<_}
 use native.Mathlib.Omega.{arith}
 use native.Mathlib.Nat.{add-zero}
 use native.Mathlib.Numerals.{add-one}
-use lib.ListN.{length, drop, getD, replicate, length-append, length-replicate}
+use lib.ListN.{length, drop, getD, replicate, length-replicate}
 use lib.Seq.{drop-drop, getD-drop}
 use lib.Dec.{eqb}
 use borrow.Author.Tests.{lt-ltb, le-ltb}
@@ -20,11 +20,11 @@ use Rattle.player.specs.declared.End.{End}
 use Rattle.player.specs.declared.End.the-variants.{Accepted, Refused}
 use Rattle.player.specs.declared.Played.{Played}
 use Rattle.player.specs.Play.{Run, record-length, end-number, end-offset, ran, play}
-use Rattle.player.proofs.Used.{Within, within}
+use Rattle.player.proofs.Used.{within}
 use Rattle.store.specs.Store.{Stored}
 use Rattle.store.proofs.Laws.{both-stored, room-after}
 use Rattle.report.specs.Lines.{record-line, end-line, refused-line, printed, line}
-use Rattle.report.specs.Printout.{first-line, record-lines, last-line, run-text, longest, log-length, too-long, printout}
+use Rattle.report.specs.Printout.{first-line, record-lines, last-line, longest, log-length, too-long, printout}
 use Rattle.report.proofs.Laws.{at-front}
 
 -- ---- lines

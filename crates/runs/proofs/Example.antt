@@ -19,7 +19,7 @@ use Rattle.recovery.specs.Line.{Item, mark, signal, spread, stop-cells-begun, s
 use Rattle.recovery.specs.Recovery.{Recovered, completed, levels, run, trace, wait-trace}
 use Rattle.recovery.proofs.Compute.{count-halves, Met, all-may, are-separated, asked-of, history-meets, is-prefix, may-read, may-rest, meets, met, rest-meets, was-read, words-meet}
 use Rattle.recovery.proofs.Computes.{computes}
-use Rattle.runs.specs.Runs.{commands, calls, played, ScriptsRecover}
+use Rattle.runs.specs.Runs.{commands, calls}
 use Rattle.runs.proofs.Runs.{runs-are-calls, scripts-recover}
 
 -- a word begins and reset mode comes in mid word; SPCR inverts the line; the format changes in the word that begins at once; the line goes to mark

@@ -1,19 +1,19 @@
 -- The laws of runs (specs/Runs.antt), by the items of a script one after the other.
 -- Assumes nothing.
 use mathlib.Core.Path.{_≡_, refl, sym, ap, subst, _∙_}
-use mathlib.Core.Logic.{_⊎_, inl, inr}
-use mathlib.Core.Bool.{Bool, true, false}
-use mathlib.Core.List.{List, [], _∷_, _++_, append-assoc, append-nil}
-use Prim.Native.Nat.{ℕ, zero, suc, _+_, _*_, _/_, _≤_}
+use mathlib.Core.Logic.{inl, inr}
+use mathlib.Core.Bool.{true}
+use mathlib.Core.List.{List, [], _∷_, _++_, append-nil}
+use Prim.Native.Nat.{ℕ, _+_, _*_, _/_}
 use native.Mathlib.Omega.{arith}
-use lib.ListN.{length, take, drop, length-append}
+use lib.ListN.{length, drop}
 use lib.Seq.{drop-drop, take-append-seam}
 use lib.Dec.{ltb}
 use Rattle.sci.specs.declared.Port.{Port}
 use Rattle.sci.specs.Calls.{Call, Answer, done, refused, after, direct, run}
 use Rattle.sci.specs.Power.{fresh}
 use Rattle.sci.specs.Valid.{valid}
-use Rattle.laws.specs.Laws.{Accepted-passes, Fresh-passes, Refused-stands, One-of}
+use Rattle.laws.specs.Laws.{Accepted-passes, Refused-stands, One-of}
 use Rattle.laws.proofs.Laws.{accepted-passes, refused-stands, passing-not-8}
 use Rattle.script.specs.declared.Fault.{Fault}
 use Rattle.script.specs.declared.Fault.the-variants.{Short, Number, Kind, Operand}
@@ -21,10 +21,9 @@ use Rattle.script.specs.declared.Command.{Command}
 use Rattle.script.specs.Number.{fault-number}
 use Rattle.script.specs.Items.{Item, call, stop, items}
 use Rattle.branches.proofs.Branches.{by-cond}
-use Rattle.player.specs.Play.{Run, call-of, record-length, record-of, ended, recorded, answered, play-items, play}
-use Rattle.recovery.specs.Line.{Item as OnLine}
-use Rattle.recovery.specs.Recovery.{HistoryEnd, Recovered, Recovers, Rest, Wired, Words, accepted, rest-end, start, step, trace, run as run-wired}
-use Rattle.recovery.specs.Corollaries.{Demand, OneList, Sentences}
+use Rattle.player.specs.Play.{Run, call-of, record-length, record-of, ended, answered, play-items, play}
+use Rattle.recovery.specs.Recovery.{Recovers, Wired, accepted, start, step, run as run-wired}
+use Rattle.recovery.specs.Corollaries.{Demand, OneList}
 use Rattle.recovery.proofs.Recovery.{recovery}
 use Rattle.recovery.proofs.Corollaries.{demand, one-list}
 use Rattle.runs.specs.Runs.{commands, calls, value, records, AllAccepted, played, IsItsCalls, RunsAreCalls, EightAtEntryOnly, ScriptsRecover}

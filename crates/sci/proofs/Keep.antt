@@ -4,7 +4,6 @@
 use mathlib.Core.Path.{_≡_, refl, sym, ap, _∙_, subst, subst⁻¹}
 use mathlib.Core.Bool.{Bool, true, false, not, cond, _&&_, _||_, false≢true}
 use Prim.Native.Nat.{ℕ, zero, suc, _+_, _*_, _≤_, _<_, zero-le}
-use native.Mathlib.Numerals.{add-one}
 use native.Mathlib.Omega.{arith}
 use borrow.Author.Needs.{needs}
 use borrow.Author.Tests.{eqb-true, eqb-false, leb-true, ltb-true, le-leb, not-true}
@@ -32,7 +31,7 @@ use Rattle.words.specs.declared.Sampled.the-variants.{Dropped, Onward, Whole}
 use Rattle.words.specs.declared.Tx.{Tx}
 use Rattle.words.specs.declared.Tx.the-variants.{Off, Blocked, Mark, Start, Data, Tail}
 use Rattle.sci.specs.Fields.{with-tx, with-rx, with-input}
-use Rattle.sci.specs.Baud.{format-of, counted, edge-counted, edge-counts, next-fall, boundary}
+use Rattle.sci.specs.Baud.{format-of, counted, edge-counted, next-fall, boundary}
 use Rattle.words.specs.Receiver.{next-position, armed, sample-at, sample, last-bit, bit-taken, clocked-word}
 use Rattle.words.specs.Due.{due-now}
 use Rattle.sci.specs.Receiver.{input-level, error-free, arms, arm-receive-on, arm-receive, complete-receive, after-sample, advance-rx-on, advance-rx}

@@ -21,7 +21,6 @@ use Rattle.words.specs.Receiver.{rx-next}
 use Rattle.sci.specs.declared.Port.{Port}
 use Rattle.sci.specs.Fields.{with-half, with-high, with-edge, with-input-clock}
 use Rattle.sci.specs.Baud.{external, running, counted, edge-counted, edge-counts}
-use Rattle.sci.specs.Receiver.{arm-receive}
 use Rattle.sci.specs.Clocked.{refresh-sync-clock, sync-edge}
 use Rattle.sci.specs.Half.{process-basic, clocked-edge, advance, half-step, halves}
 use Rattle.sci.specs.Skip.{arms-on, clock-fresh, deadline, counted-by, idle-for, edge-now, edge-level, toggled, edge-of, edge-work, Clocked, edges}

@@ -45,7 +45,7 @@ use Rattle.sci.specs.Skip.{arms-on, starts-on}
 use Rattle.sci.specs.Fields.{with-tx, with-rx}
 use Rattle.sci.specs.Baud.{format-of, next-fall, boundary}
 use Rattle.words.specs.Receiver.{armed, clocked-word}
-use Rattle.sci.specs.Clocked.{tail-ends-on, shift-out-on, refresh-sync-clock, sync-edge}
+use Rattle.sci.specs.Clocked.{tail-ends-on, shift-out-on, refresh-sync-clock}
 use Rattle.sci.specs.Registers.{load-tail-on, load-tail, settled, sender-on}
 use Rattle.sci.specs.Sender.{try-start-on, try-start, loaded, preloaded, preload, start-loaded, tailed, one-sent, advance-tx}
 use Rattle.sci.specs.Pins.{high-or-low}

@@ -1,6 +1,5 @@
 // The program: plays the script on standard input and prints it (document 01, "A script comes in"). What it prints is report's `printout`, which is proved;
 // reading and writing are here.
-ghost use Prim.Native.Nat.{_≤_};
 ghost use lib.ListN.{length};
 ghost use Rattle.sci3.specs.Input.{Within};
 

@@ -1,5 +1,4 @@
 use Rattle.frame.proofs.Choose.{choose}
-use borrow.Author.Needs.{needs}
 use Rattle.sci.proofs.Port.edge_level.Statement.{statement}
 use Rattle.sci.proofs.Port.edge_level.Tie as tie
 
