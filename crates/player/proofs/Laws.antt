@@ -2,8 +2,8 @@
 -- Assumes nothing.
 use mathlib.Core.Path.{_≡_, refl, sym, ap, subst, _∙_}
 use mathlib.Core.Bool.{Bool, true, false, cond}
-use mathlib.Core.List.{List, [], _∷_, _++_, append-assoc, append-nil}
-use Prim.Native.Nat.{ℕ, zero, suc, _+_, _-_, _≤_, _<_}
+use mathlib.Core.List.{List, [], _++_, append-assoc, append-nil}
+use Prim.Native.Nat.{ℕ, _+_, _-_, _≤_, _<_}
 use native.Mathlib.Omega.{arith}
 use native.Mathlib.Nat.{add-assoc, add-zero, zero-add}
 use lib.ListN.{length, set, take, drop, length-append, length-drop, take-append-drop, drop-of-length-le}
@@ -17,7 +17,6 @@ use Rattle.frame.specs.Frame.{one-if}
 use Rattle.sci.specs.declared.Pins.{Pins}
 use Rattle.sci.specs.declared.Refusal.{Refusal}
 use Rattle.sci.specs.declared.Called.{Called}
-use Rattle.sci.specs.declared.Outcome.{Outcome}
 use Rattle.sci.specs.declared.Outcome.the-variants.{Done, Refused as Refusing}
 use Rattle.sci.specs.Calls.{Answer, done, refused, direct, number, answer}
 use Rattle.sci.specs.Valid.{valid}
@@ -32,6 +31,7 @@ use Rattle.script.specs.Command.{command-at}
 use Rattle.script.specs.Items.{item, items}
 use Rattle.script.specs.Write.{kind}
 use Rattle.branches.proofs.Branches.{either-way}
+use Rattle.store.proofs.Laws.{same-long}
 use Rattle.script.proofs.Items.{Moves, command-moves, items-next, items-none}
 use Rattle.player.specs.declared.Stepped.{Stepped}
 use Rattle.player.specs.declared.Stepped.the-variants.{Onward, Stopped}
@@ -138,7 +138,7 @@ module _ (run : Run) (p : Port) (used : ℕ) (s : List ℕ) (at : ℕ) (log ys :
   front = length-take-le used log room
 
   all : length (take used log ++ ys) ≡ length log
-  all = rw (length-append, kept, part-to-end log used, front, length-drop) (omega arith)
+  all = ap length (sym back) ∙ same-long log ys used kept
 
   pub goes-on : {q : Port} {next : ℕ} → st ≡ Onward q next → GoesOn run used s at log whole q next
   goes-on {q} {next} e =
@@ -160,9 +160,6 @@ module _ (run : Run) (p : Port) (used : ℕ) (s : List ℕ) (at : ℕ) (log ys :
       let b : By p s at (drop used log) (stopped (number r) ys) (play-items p (items s at) (drop used log)) = rw e at one in
       let same : whole ≡ log = back ∙ rw (b .1, take-append-drop) in
       sym (so-far ∙ ap (recorded (take used log)) (b .0) ∙ rw (take-append-drop, front, same, add-zero))
-
-  pub same-long : length whole ≡ length log
-  same-long = rw back all
 
 -- the end of the loop
 pub finishes : (run : Run) (p : Port) (used : ℕ) (s : List ℕ) (at : ℕ) (log : List ℕ) → used ≤ length log → length s ≤ at →

@@ -1,7 +1,7 @@
 -- What reading finds at an offset, by the byte that stands there; how large a number can be; and how a number is written, byte by byte.
 -- Assumes nothing.
 use mathlib.Core.Path.{_≡_, refl, sym, ap, _∙_}
-use mathlib.Core.Bool.{Bool, true, false, cond, _&&_, _||_, false≢true}
+use mathlib.Core.Bool.{Bool, true, false, cond, _&&_}
 use mathlib.Core.List.{List, [], _∷_, _++_, append-nil}
 use Prim.Native.Nat.{ℕ, zero, suc, _+_, _-_, _*_, _/_, _%_, _^_, _≤_, _<_}
 use native.Mathlib.Omega.{arith, pow-step}
@@ -11,9 +11,10 @@ use lib.ListN.{length, getD, take, drop, set, length-set, length-drop, drop-of-l
 use lib.Seq.{drop-cons, take-all}
 use lib.Dec.{ltb, eqb}
 use borrow.Rule.Slice.PartAt.{part-to-end}
-use borrow.Rule.Slice.PartMut.{putMid, same-len-mid}
+use borrow.Rule.Slice.PartMut.{putMid}
 use borrow.Author.Tests.{lt-ltb, le-ltb, ltb-false, eqb-false}
 use Rattle.branches.proofs.Branches.{either-way, or-left, or-right}
+use Rattle.store.proofs.Laws.{same-long}
 use Rattle.script.specs.declared.Fault.the-variants.{Short, Number as NotANumber}
 use Rattle.script.specs.declared.Number.{Number}
 use Rattle.script.specs.declared.Number.the-variants.{Value, Refused}
@@ -206,4 +207,4 @@ joined (x ∷ xs) ys vs b h e =
 
 pub kept-long : (buf ys : List ℕ) (b : ℕ) → length ys ≡ length (take (length (set buf 0 b) - 1) (drop 1 (set buf 0 b))) →
     length (putMid 1 (length (set buf 0 b) - 1) (set buf 0 b) ys) ≡ length buf
-kept-long buf ys b h = same-len-mid 1 (length (set buf 0 b) - 1) (set buf 0 b) ys h ∙ length-set buf 0 b
+kept-long buf ys b h = same-long (set buf 0 b) ys 1 h ∙ length-set buf 0 b

@@ -4,14 +4,14 @@
 use borrow.Author.Needs.{needs}
 use native.Mathlib.Omega.{arith}
 use mathlib.Core.Path.{_≡_, refl, _∙_}
-use mathlib.Core.List.{List}
-use Prim.Native.Nat.{ℕ, _≤_, _-_}
+use Prim.Native.Nat.{_≤_, _-_}
 use lib.ListN.{length, take, drop}
 use borrow.Rule.Slice.PartMut.{putMid}
 use Rattle.script.specs.Items.{items}
 use Rattle.player.specs.Play.{recorded, play-items}
 use Rattle.player.specs.Step.{play-on}
-use Rattle.player.proofs.Laws.{GoesOn, none-recorded, goes-on, stands, same-long, finishes}
+use Rattle.store.proofs.Laws.{same-long}
+use Rattle.player.proofs.Laws.{GoesOn, none-recorded, goes-on, stands, finishes}
 use Rattle.player.proofs.play_on.Statement.{statement}
 use Rattle.player.proofs.play_on.Tie as tie
 
@@ -54,8 +54,7 @@ enum-known-refusal c = search needs
 same-length : tie.Need-same-length Inv-loop μ-loop
 same-length c =
     let l = c .before .before .before .before .before .before .before .before .loop in
-    same-long _ (l .p) (l .used) (c .before .before .before .before .before .before .before .before .before .before .before .args .script .now) (l .at) (l .log) (c .before .before .before .before .before .step .last .1 .1 .1 .0) (c .before .before .before .before .before .step .result) (l .inv .0) (c .before .before .before .before .before .before .before .loop-test .taken) (l .inv .2)
-    (c .before .before .before .before .before .step .ensures) (c .before .before .before .before .before .step .kept .1 .1 .1 .0) ∙ l .inv .1
+    same-long (l .log) (c .before .before .before .before .before .step .last .1 .1 .1 .0) (l .used) (c .before .before .before .before .before .step .kept .1 .1 .1 .0) ∙ l .inv .1
 
 returns : tie.Need-returns Inv-loop μ-loop
 returns c =

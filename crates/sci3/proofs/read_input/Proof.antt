@@ -4,7 +4,8 @@ use native.Mathlib.Omega.{arith}
 use mathlib.Core.Path.{_≡_, refl, _∙_}
 use Prim.Native.Nat.{_-_, _≤_}
 use lib.ListN.{length}
-use Rattle.sci3.proofs.Laws.{same-long, piece-within}
+use Rattle.store.proofs.Laws.{same-long}
+use Rattle.sci3.proofs.Laws.{piece-within}
 use borrow.Author.Needs.{needs}
 use Rattle.sci3.proofs.read_input.Statement.{statement}
 use Rattle.sci3.proofs.read_input.Tie as tie
