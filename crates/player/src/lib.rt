@@ -16,7 +16,7 @@ use script::Decoded;
 use script::Fault;
 
 // How many bytes of the log a record takes.
-const RECORD: usize = 5;
+pub const RECORD: usize = 5;
 
 // The direct call of a command.
 fn call(port: Port, command: Command) -> Called

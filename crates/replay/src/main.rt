@@ -5,6 +5,7 @@
 ghost use Prim.Native.Nat.{_≤_};
 use capi::sci3_fresh;
 use capi::sci3_play;
+use player::RECORD;
 
 const LOG: usize = 40960;
 
@@ -72,10 +73,10 @@ fn print_sum(sum: u64) {
 
 // The record at an offset of the log.
 fn print_record(log: &[u8], at: usize) {
-    if log.len() < 5 {
+    if log.len() < RECORD {
         return;
     }
-    if at <= log.len() - 5 {
+    if at <= log.len() - RECORD {
         let text = report::record_line(log[at], log[at + 1], log[at + 2], log[at + 3], log[at + 4]);
         io::write_all(1, &text);
     }
@@ -85,10 +86,10 @@ fn print_records(log: &[u8], used: usize) {
     let mut at: usize = 0;
     while at < used {
         print_record(log, at);
-        if used - at < 5 {
+        if used - at < RECORD {
             return;
         }
-        at = at + 5;
+        at = at + RECORD;
     }
 }
 

@@ -8,10 +8,8 @@ ghost use Rattle.report.specs.Decimal.{digits, decimal};
 ghost use Rattle.report.specs.Lines.{hex-digit, bit, level, record-line, end-line, refused-line, printed, line};
 ghost use Rattle.report.specs.Printout.{first-line, record-lines, last-line, printout};
 use player::End;
+use player::RECORD;
 use sci::Port;
-
-// How many bytes of the log a record takes.
-const RECORD: usize = 5;
 
 // The longest script that the program takes.
 const LONGEST: usize = 16384;
