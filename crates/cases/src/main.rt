@@ -7,16 +7,8 @@ use words::Receiver;
 use words::Rx;
 use words::Tx;
 
-fn hex_digit(n: u8) -> u8 {
-    let low = n % 16;
-    if low < 10 {
-        return b'0' + low;
-    }
-    b'A' + (low - 10)
-}
-
 fn print_byte(n: u8) {
-    let digits = [hex_digit(n / 16), hex_digit(n)];
+    let digits = [report::hex_digit(n / 16), report::hex_digit(n % 16)];
     io::write_all(1, &digits);
 }
 

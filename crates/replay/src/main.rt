@@ -53,21 +53,20 @@ fn with_numbers(sum: u64, numbers: &[u64]) -> u64 {
     total
 }
 
-fn hex_digit(n: u64) -> u8 {
-    let low = (n % 16) as u8;
-    if low < 10 { 48 + low } else { 55 + low }
+fn low_digit(n: u64) -> u8 {
+    report::hex_digit((n % 16) as u8)
 }
 
 fn print_sum(sum: u64) {
     let mut text = [61u8, 32, 48, 48, 48, 48, 48, 48, 48, 48, 10];
-    text[9] = hex_digit(sum);
-    text[8] = hex_digit(sum / 16);
-    text[7] = hex_digit(sum / 256);
-    text[6] = hex_digit(sum / 4096);
-    text[5] = hex_digit(sum / 65536);
-    text[4] = hex_digit(sum / 1048576);
-    text[3] = hex_digit(sum / 16777216);
-    text[2] = hex_digit(sum / 268435456);
+    text[9] = low_digit(sum);
+    text[8] = low_digit(sum / 16);
+    text[7] = low_digit(sum / 256);
+    text[6] = low_digit(sum / 4096);
+    text[5] = low_digit(sum / 65536);
+    text[4] = low_digit(sum / 1048576);
+    text[3] = low_digit(sum / 16777216);
+    text[2] = low_digit(sum / 268435456);
     io::write_all(1, &text);
 }
 

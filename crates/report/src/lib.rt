@@ -15,7 +15,7 @@ use sci::Port;
 const LONGEST: usize = 16384;
 
 // A hexadecimal digit; `?` above 15.
-fn hex_digit(n: u8) -> u8
+pub fn hex_digit(n: u8) -> u8
     ensures { λ r. ⌜ r ≡ hex-digit n ⌝ }
 {
     if n < 10 {
