@@ -26,6 +26,7 @@ use Rattle.words.specs.declared.Receiver.the-variants.{Idle, Busy}
 use Rattle.words.specs.Sender.{tx-next}
 use Rattle.capi.specs.State.{flag, due-list, holding-list, format-list, character-list, tx-character, tx-cell, tx-loaded, tx-tag, tx-list, position-number, word-list, rx-list, register-list, power-list, line-list, encode, u8-max, u32-max, u64-max, due-max, holding-max, format-max, character-max, tx-max, word-max, rx-max, register-max, power-max, line-max, port-max, fits, due-in, holding-in, format-in, character-in, tail-of, tx-of, tx-in, position-of, word-in, rx-in, port-of, port-in, a-port, nothing, decode}
 use Rattle.frame.proofs.Truth.{and-left, and-right}
+use Rattle.frame.proofs.Laws.{one-if≤}
 use Rattle.capi.specs.Round.{DueTyped, HoldingTyped, FormatTyped, CharacterTyped, TxTyped, RxTyped, ReceiverTyped, PortTyped, RoundTrip}
 
 -- ---- an encoding fits
@@ -45,11 +46,7 @@ fits-append (m ∷ ms) [] ns ys h k = absurd (false≢true h)
 fits-append (m ∷ ms) (x ∷ xs) ns ys h k =
     ap₂ _&&_ (and-left (leb x m) (fits ms xs) h) (fits-append ms xs ns ys (and-right (leb x m) (fits ms xs) h) k)
 
-bit≤ : (b : Bool) → one-if b ≤ 1
-bit≤ true = lit≤ tt
-bit≤ false = lit≤ tt
-
-ruleset sums = (fits-cons, fits-nil, bit≤)
+ruleset sums = (fits-cons, fits-nil, one-if≤)
 
 due-fits : (d : Due) → DueTyped d → fits due-max (due-list d) ≡ true
 unfolding fits

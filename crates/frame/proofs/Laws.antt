@@ -2,11 +2,11 @@
 -- Assumes nothing.
 use mathlib.Core.Path.{_≡_, refl, ap, _∙_}
 use mathlib.Core.Logic.{_⊎_, inl, inr}
-use mathlib.Core.Bool.{true, false, not}
+use mathlib.Core.Bool.{Bool, true, false, not}
 use Prim.Native.Nat.{ℕ, zero, suc, _+_, _*_, _/_, _%_, _^_, _≤_, _<_}
 use native.Mathlib.Nat.{mod-eq-of-lt, mod-lt, one-mul, lt-of-le-of-lt}
 use native.Mathlib.Omega.{arith}
-use lib.Dec.{eqb, lit<}
+use lib.Dec.{eqb, lit≤, lit<}
 use lib.Pow.{pow-mono, shl-exact, field, mod-mod-pow}
 use lib.Bits.{bitAnd, bitOr, or-shifted-r, and-mask}
 use lib.Count.{ones, ones-step}
@@ -22,6 +22,10 @@ without x m e = clear-of x m (not-true (has x m) e)
 
 pub without-test : (x m : ℕ) → bitAnd x m ≡ 0 → not (has x m) ≡ true
 without-test x m e = ap not (ap not (eq-eqb (bitAnd x m) 0 e))
+
+pub one-if≤ : (b : Bool) → one-if b ≤ 1
+one-if≤ true = lit≤ tt
+one-if≤ false = lit≤ tt
 
 -- a set bit that a shift keeps within 16 bits
 pub one-shl : (n : ℕ) → n ≤ 15 → (1 * 2 ^ n) % 65536 ≡ 2 ^ n

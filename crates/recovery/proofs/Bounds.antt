@@ -23,7 +23,7 @@ use Rattle.frame.specs.Frame.{differ, format, has, one-if}
 use Rattle.words.specs.Receiver.{armed, sample, sample-at, started, stepped, stopped}
 use Rattle.words.specs.Due.{due-now}
 use Rattle.branches.proofs.Branches.{by-cond, or-right}
-use Rattle.recovery.proofs.Signal.{one-le}
+use Rattle.frame.proofs.Laws.{one-if≤}
 use Rattle.recovery.proofs.View.{View, fall, v-advance, v-advance-on, v-arm, v-arm-on, v-basic, v-can-arm, v-complete, v-outcome, v-rx}
 
 -- what every format of some SMR and SEMR has
@@ -36,7 +36,7 @@ pub record Sound (f : Format) : Type 0 where
 pub format-sound : (smr semr : ℕ) → Sound (format smr semr)
 format-sound smr semr =
     let g : Shape (format smr semr) = shape (format smr semr) (format-good smr semr) in
-    record { long = g .long; short = g .short; narrow = omega (arith, g .wide, one-le (format smr semr .parity)); stops = g .one }
+    record { long = g .long; short = g .short; narrow = omega (arith, g .wide, one-if≤ (format smr semr .parity)); stops = g .one }
 
 -- how near the due half t is, by position
 abbrev pub near : ℤ → Format → ℕ → ℕ → Type 0

@@ -27,7 +27,7 @@ use Rattle.recovery.proofs.Halfwise.{half-moments, moments, moments-of}
 use Rattle.recovery.proofs.LineFold.{lined-run, lined-start}
 use Rattle.recovery.proofs.Once.{Between, begun-in, begun-past, begun-zero, between, passed-past}
 use Rattle.recovery.proofs.Recovery.{grown-start, recovery}
-use Rattle.recovery.proofs.Signal.{one-le}
+use Rattle.frame.proofs.Laws.{one-if≤}
 use Rattle.recovery.proofs.Words.{at-least, passed-zero}
 
 -- ---- moment by moment
@@ -79,7 +79,7 @@ begun-words : (f : Format) (items : List Item) (k : ℕ) → stop-cells-begun f 
 unfolding words-in stop-cells-begun
 begun-words f [] k = omega arith
 begun-words f (mark n ∷ is) k = begun-words f is (k - n)
-begun-words f (word-of v ∷ is) k = omega (arith, one-le (ltb (stop f * f .«half_bit») k), begun-words f is (k - span f))
+begun-words f (word-of v ∷ is) k = omega (arith, one-if≤ (ltb (stop f * f .«half_bit») k), begun-words f is (k - span f))
 
 -- a read of RDR, with what stands before it
 at-read : (first : Port) (items : List Item) (before after : List Moment) (m : Moment) (a n : ℕ) (c : Count) → throughout first items c (before ++ (m ∷ after))
@@ -130,11 +130,11 @@ module _ (f : Format) (long : 16 ≤ f .«half_bit») (st : 0 < f .stops) where
           let h : span f ≤ k = leb-true (span f) k e in
           let g : suc k - span f ≡ suc (k - span f) = omega arith in
           let t : leb (suc (stop f) * f .«half_bit») k ≡ true = le-leb (suc (stop f) * f .«half_bit») k (omega (arith, whole-cell)) in
-          rw (g, t) (omega (arith, ih, one-le (ltb (stop f * f .«half_bit») (suc k))))
+          rw (g, t) (omega (arith, ih, one-if≤ (ltb (stop f * f .«half_bit») (suc k))))
       go ih false e =
           let h : k < span f = leb-false (span f) k e in
           let g : suc k - span f ≡ 0 = omega arith in
-          rw g (omega (arith, begun-zero f is, one-le (ltb (stop f * f .«half_bit») (suc k))))
+          rw g (omega (arith, begun-zero f is, one-if≤ (ltb (stop f * f .«half_bit») (suc k))))
 
   abbrev Inside : List Item → ℕ → Type 0
   Inside is k = (w : NthWord is (stop-cells-passed f is k)) × (cell-begins f (w .earlier) ≤ k) × (k < cell-ends f (w .earlier))
@@ -172,7 +172,7 @@ module _ (f : Format) (long : 16 ≤ f .«half_bit») (st : 0 < f .stops) where
           let t : leb (suc (stop f) * f .«half_bit») k ≡ true = le-leb (suc (stop f) * f .«half_bit») k (omega (arith, whole-cell)) in
           let s : one-if (leb (suc (stop f) * f .«half_bit») k) ≡ 1 = ap one-if t in
           let u : stop-cells-passed f is (k - span f) < stop-cells-begun f is (suc (k - span f))
-          = omega (arith, rw g at h, s, one-le (ltb (stop f * f .«half_bit») (suc k))) in
+          = omega (arith, rw g at h, s, one-if≤ (ltb (stop f * f .«half_bit») (suc k))) in
           let w : Inside is (k - span f) = ih u in
           (behind (word-of v) is (stop-cells-passed f is (k - span f)) (one-if (leb (suc (stop f) * f .«half_bit») k) + stop-cells-passed f is (k - span f)) (w .0) (omega (arith, w .0 .place, s)), omega arith, omega arith)
       go ih false e =

@@ -16,7 +16,7 @@ use Rattle.sci.specs.Baud.{format-of}
 use Rattle.recovery.specs.Line.{Count, Event, Item, count-after, half-passes, mark, none-yet, other, rdr-read, span, span-of, stop-cells-begun, stop-cells-passed, word-of, words-in}
 use Rattle.recovery.specs.Recovery.{Moment, Once, completed, completed-on, level-of, levels, throughout}
 use Rattle.recovery.proofs.Bounds.{format-sound}
-use Rattle.recovery.proofs.Signal.{one-le}
+use Rattle.frame.proofs.Laws.{one-if≤}
 use Rattle.recovery.proofs.Words.{at-least, passed-zero}
 
 pub begun-zero : (f : Format) (is : List Item) → stop-cells-begun f is 0 ≡ 0
@@ -104,13 +104,13 @@ once f long st xs ys v ms b =
       within = λ k h l.
           let a : ℕ = span-of f xs + (stop f * f .«half_bit» + k) in
           let e2 : stop-cells-begun f (xs ++ word-of v ∷ ys) a ≡ words-in xs + stop-cells-begun f (word-of v ∷ ys) (stop f * f .«half_bit» + k) = begun-past f long st xs (word-of v ∷ ys) (stop f * f .«half_bit» + k) in
-          omega (arith, e2, begun-in f long st v ys (stop f * f .«half_bit» + k) (omega arith), one-le (ltb (stop f * f .«half_bit») (stop f * f .«half_bit» + k)), b a l .most);
+          omega (arith, e2, begun-in f long st v ys (stop f * f .«half_bit» + k) (omega arith), one-if≤ (ltb (stop f * f .«half_bit») (stop f * f .«half_bit» + k)), b a l .most);
       through = λ l.
           let a : ℕ = span-of f xs + suc (stop f) * f .«half_bit» in
           let e1 : stop-cells-passed f (xs ++ word-of v ∷ ys) a ≡ words-in xs + stop-cells-passed f (word-of v ∷ ys) (suc (stop f) * f .«half_bit») = passed-past f long st xs (word-of v ∷ ys) (suc (stop f) * f .«half_bit») in
           let e2 : stop-cells-begun f (xs ++ word-of v ∷ ys) a ≡ words-in xs + stop-cells-begun f (word-of v ∷ ys) (suc (stop f) * f .«half_bit») = begun-past f long st xs (word-of v ∷ ys) (suc (stop f) * f .«half_bit») in
           let t : leb (suc (stop f) * f .«half_bit») (suc (stop f) * f .«half_bit») ≡ true = le-leb (suc (stop f) * f .«half_bit») (suc (stop f) * f .«half_bit») (le-refl (suc (stop f) * f .«half_bit»)) in
-          omega (arith, e1, e2, passed-in f long st v ys (suc (stop f) * f .«half_bit») (omega arith) ∙ ap one-if t, begun-in f long st v ys (suc (stop f) * f .«half_bit») (omega arith), one-le (ltb (stop f * f .«half_bit») (suc (stop f) * f .«half_bit»)), b a l .least, b a l .most);
+          omega (arith, e1, e2, passed-in f long st v ys (suc (stop f) * f .«half_bit») (omega arith) ∙ ap one-if t, begun-in f long st v ys (suc (stop f) * f .«half_bit») (omega arith), one-if≤ (ltb (stop f * f .«half_bit») (suc (stop f) * f .«half_bit»)), b a l .least, b a l .most);
     }
 
 -- the two bounds of every moment, at every number of halves

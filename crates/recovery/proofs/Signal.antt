@@ -1,7 +1,7 @@
 -- Facts of the line's levels and counts.
 -- Assumes nothing.
 use mathlib.Core.Path.{_≡_, refl, sym}
-use Prim.Native.Nat.{ℕ, zero, suc, _+_, _-_, _*_, _<_, _≤_}
+use Prim.Native.Nat.{ℕ, zero, suc, _+_, _-_, _*_, _<_}
 use native.Mathlib.Omega.{arith}
 use native.Mathlib.Nat.{not-suc-le-zero}
 use mathlib.Core.Bool.{Bool, true, false}
@@ -10,7 +10,7 @@ use lib.ListN.{length, drop, getD, replicate, length-append, length-replicate, g
 use lib.Seq.{getD-append-add, drop-append-add}
 use Rattle.frame.specs.declared.Format.{Format}
 use Rattle.frame.proofs.Words.{front-length}
-use Rattle.frame.specs.Frame.{frame, one-if, parity-cell, stop}
+use Rattle.frame.specs.Frame.{frame, parity-cell, stop}
 use Rattle.recovery.specs.Line.{spread}
 
 pub spread-length : (n : ℕ) (bs : List Bool) → length (spread n bs) ≡ length bs * n
@@ -53,8 +53,3 @@ module _ (f : Format) (bs : List Bool) (full : length bs ≡ f .«data») where
       = rw (spread-length (f .«half_bit») (false ∷ (bs ++ parity-cell f bs)), front-length f bs full) in
       rw (e, spread-append (f .«half_bit») (false ∷ (bs ++ parity-cell f bs)) (replicate (f .stops) true), drop-append-add (spread (f .«half_bit») (false ∷ (bs ++ parity-cell f bs))) (spread (f .«half_bit») (replicate (f .stops) true)) y, spread-replicate (f .«half_bit») (f .stops) true)
       (drop-replicate y (f .stops * f .«half_bit») true)
-
--- a flag as a number
-pub one-le : (b : Bool) → one-if b ≤ 1
-one-le true = omega arith
-one-le false = omega arith

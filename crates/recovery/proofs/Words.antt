@@ -23,7 +23,8 @@ use Rattle.frame.proofs.Words.{bits-length, cells-length, data-cell, number-bit
 use Rattle.frame.specs.Frame.{bits, differ, frame, has, number, odd-ones, one-if, stop}
 use Rattle.words.specs.Receiver.{rx-clocked}
 use Rattle.recovery.specs.Line.{Count, Item, count-after, half-passes, mark, none-yet, prefix, rdr-read, signal, span, spread, stop-cells-begun, stop-cells-passed, tally-after, values, word-of}
-use Rattle.recovery.proofs.Signal.{one-le, spread-at, spread-length, tail-marks}
+use Rattle.frame.proofs.Laws.{one-if≤}
+use Rattle.recovery.proofs.Signal.{spread-at, spread-length, tail-marks}
 use Rattle.recovery.proofs.Steps.{and-false, arm-mark, checks, falls, false-start, idle, line-arms, quiet, rx-at, rx-wait, starts, stops-at, takes}
 use Rattle.recovery.proofs.View.{View, completing, fall, state, v-arm, v-flags, v-half, v-mark}
 
@@ -126,7 +127,7 @@ module _ (f : Format) (items : List Item) (r0 : ℕ) where
         less = λ x.
             let a : 0 + x - (f .stops * f .«half_bit» - e) ≡ k + suc x - span f = gap x in
             let b : suc (c .halves) + x ≡ c .halves + suc x = omega arith in
-            rw (a, b) (omega (arith, l .less (suc x), one-le (leb (suc (stop f) * f .«half_bit») (k + suc x))));
+            rw (a, b) (omega (arith, l .less (suc x), one-if≤ (leb (suc (stop f) * f .«half_bit») (k + suc x))));
         names = λ y. let b : suc (c .completions) + y ≡ c .completions + suc y = omega arith in rw b (l .names (suc y));
       }
     where
@@ -335,7 +336,7 @@ module _ (f : Format) (items : List Item) (r0 : ℕ) where
           rw (w, top) (stop-half c ls is v k h hi s d n b l e g lo up free (ahead le))
       sample-half e j q lo up jle u (no ge) (no low) =
           let le : k < span f = omega (arith, room j jle) in
-          let same : j ≡ f .«data» = omega (arith, one-le (f .parity)) in
+          let same : j ≡ f .«data» = omega (arith, one-if≤ (f .parity)) in
           let p : f .parity ≡ true = has-parity (f .parity) (omega arith) in
           let w : m ≡ differ (odd-ones (bits (f .«data») v)) (f .odd)
           = level (suc j) (pred e) (omega arith) (omega arith) (omega arith) le

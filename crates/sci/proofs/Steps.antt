@@ -7,7 +7,7 @@ use native.Mathlib.Nat.{mod-le, le-trans, mul-le-mul-left, mul-le-mul-right}
 use native.Mathlib.Numerals.{add-one}
 use native.Mathlib.Omega.{arith}
 use lib.Bits.{bitAnd, and-le-r}
-use lib.Dec.{eqb, leb, lit≤}
+use lib.Dec.{eqb, leb}
 use mir.Syntax.{w8, w32}
 use mir.Val.{Fits}
 use types.Run.{OneOf, miss}
@@ -18,8 +18,7 @@ use borrow.Author.Tests.{eq-eqb, ne-eqb, le-leb}
 use Rattle.frame.specs.declared.Format.{Format}
 use Rattle.frame.specs.Frame.{has, one-if, cells, format, word, format-valid}
 use Rattle.frame.proofs.Choose.{choose, cond-t, cond-f, key-f}
-use Rattle.frame.proofs.Laws.{one-shl}
-use Rattle.frame.proofs.Branches.{and-no}
+use Rattle.frame.proofs.Laws.{one-shl, one-if≤}
 use Rattle.frame.proofs.Words.{shape, format-good}
 use Rattle.words.specs.Sender.{holds}
 use Rattle.words.proofs.Steps.{dues}
@@ -163,10 +162,6 @@ start-bounded t k n h s = subst Sendable h s
 
 pub data-bounded : (t : Tx) (k : Character) (c : ℕ) (n : Due) → t ≡ Data k c n → Sendable t → Bounded (k .format)
 data-bounded t k c n h s = (subst Sendable h s) .0
-
-one-if≤ : (b : Bool) → one-if b ≤ 1
-one-if≤ true = lit≤ tt
-one-if≤ false = lit≤ tt
 
 below≤9 : (d : Due) (f : Format) (c : ℕ) → Bounded f → Below d f c → c ≤ 9
 below≤9 Never f c b h = omega arith

@@ -18,6 +18,7 @@ use borrow.Author.Tests.{eq-eqb, ne-eqb, eqb-true, eqb-false, leb-true, ltb-true
 use Rattle.frame.specs.declared.Format.{Format}
 use Rattle.frame.specs.Frame.{differ, one-if}
 use Rattle.frame.proofs.Choose.{cond-t, cond-f}
+use Rattle.frame.proofs.Laws.{one-if≤}
 use Rattle.words.specs.declared.Rx.{Rx}
 use Rattle.words.specs.declared.Sampled.{Sampled}
 use Rattle.words.specs.declared.Sampled.the-variants.{Dropped, Onward, Whole}
@@ -60,10 +61,6 @@ at-seven (pos n) h = refl
 at-seven (negsuc n) h = ne-eqb (256 - suc n) 7 (λ p. omega arith)
 
 -- ---- a position in its place
-one-if≤ : (b : Bool) → one-if b ≤ 1
-one-if≤ true = lit≤ tt
-one-if≤ false = lit≤ tt
-
 bound≤ : (s : Bool) (d k : ℕ) → d ≤ 8 → k ≤ 1 → cond s 7 (d + k) ≤ 9
 bound≤ true d k hd hk = lit≤ tt
 bound≤ false d k hd hk = omega arith
