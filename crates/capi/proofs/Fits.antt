@@ -4,15 +4,14 @@ use mathlib.Core.Path.{_≡_, refl, sym, ap, ap₂, _∙_, subst}
 use mathlib.Core.Bool.{Bool, true, false, _&&_, false≢true}
 use mathlib.Core.List.{List, [], _∷_}
 use Prim.Native.Nat.{ℕ, zero, suc, _+_, _<_, _≤_, zero-le}
-use native.Mathlib.Numerals.{add-one}
 use native.Mathlib.Omega.{arith}
 use lib.Dec.{leb, ltb}
 use lib.ListN.{length, take, drop, getD, drop-of-length-le}
-use lib.Seq.{drop-cons}
 use mir.Syntax.{w8, w16, w32}
 use mir.Val.{Fits}
 use borrow.Author.Tests.{leb-true, ltb-true, le-leb, lt-leb}
 use Rattle.frame.proofs.Truth.{and-left, and-right}
+use Rattle.script.proofs.Laws.{drop-next}
 use Rattle.capi.specs.State.{fits}
 
 pub fits-length : (ms s : List ℕ) → fits ms s ≡ true → length s ≡ length ms
@@ -72,9 +71,6 @@ part-fits ms ns s i n h e = subst (λ (l : List ℕ). fits l (take n (drop i s))
 pub ruleset placed = (index-in, end-in, most-at, u8-at, u16-at, u32-at, part-fits)
 
 -- ---- the test, number by number
-drop-next : (s : List ℕ) (i : ℕ) → i < length s → drop i s ≡ getD s i 0 ∷ drop (i + 1) s
-drop-next s i h = drop-cons s i 0 h ∙ ap (λ (n : ℕ). getD s i 0 ∷ drop n s) (sym (add-one i))
-
 module _ (ms s : List ℕ) (i : ℕ) (len : length s ≡ length ms) where
   next : i < length ms → fits (drop i ms) (drop i s) ≡ (leb (getD s i 0) (getD ms i 0) && fits (drop (i + 1) ms) (drop (i + 1) s))
   unfolding fits

@@ -25,6 +25,7 @@ use Rattle.sci.specs.Registers.{handles, read, sender-off, sender-on, scr-tx, w
 use Rattle.sci.specs.Power.{fresh, reset-registers, reset, with-power, set-power}
 use Rattle.sci.specs.Pins.{receive-input, external-edge, pins-change, input-pins}
 use Rattle.branches.proofs.Branches.{by-cond, both-arms}
+use Rattle.sci.proofs.Checked.{edge-counts-kept}
 use Rattle.laws.proofs.Masks.{and-and, and-or, or-clear, and-clear}
 use Rattle.sci.proofs.SenderKeeps.{SenderClosed, free-sender, try-keeps, load-tail-keeps}
 use Rattle.sci.proofs.ReceiverKeeps.{ReceiverClosed, free-receiver, arm-keeps, basic-keeps, sync-edge-keeps}
@@ -229,14 +230,6 @@ edge-kept b h p k x =
     let first : Ok (suc h) (process-basic q) = basic-first h q (k .ok .sends .fits) (side-counted h p (k .ok .side)) in
     record { ok = ok-refresh (suc h) w (ok-sync-edge b (suc h) (process-basic q) first); due = due-external (suc h) w (external-work b q x) }
 
--- the pin's edge counts after the line is set just as before
-same-edge : (clock line : Bool) (p : Port) → edge-counts clock (with-input-clock (receive-input line p) clock) ≡ edge-counts clock p
-unfolding receive-input
-same-edge clock line p = both-arms Same (differ line (p .input)) _ p (arm-keeps Same (λ q x e. e) (with-input p line) refl) refl
-  where
-    Same : Port → Type 0
-    Same w = edge-counts clock (with-input-clock w clock) ≡ edge-counts clock p
-
 pub pins-set-kept : (clock line : Bool) (h : ℕ) (p : Port) → Kept h p → Kept h (with-input-clock (receive-input line p) clock)
 pins-set-kept clock line h p k =
     let m : Kept h (receive-input line p) = line-kept h p k line in
@@ -249,7 +242,7 @@ unfolding input-pins external-edge
 pins-kept clock line h p k =
     by-cond Case (pins-change clock line p) _ p
     (λ e. by-cond Case (edge-counts clock q) _ q
-    (λ g. inr (edge-kept clock h q kq (and-left (external q) _ (and-right (running q) _ g)), and-both (pins-change clock line p) (edge-counts clock p) e (sym (same-edge clock line p) ∙ g)))
+    (λ g. inr (edge-kept clock h q kq (and-left (external q) _ (and-right (running q) _ g)), and-both (pins-change clock line p) (edge-counts clock p) e (sym (edge-counts-kept clock line p) ∙ g)))
     (λ g. inl kq))
     (λ e. inl k)
   where

@@ -55,7 +55,7 @@ unfolding Accepted-passes direct
 accepted-passes c p q v r =
     subst Passes r (by-cond Passes (valid p) (called c p) (refuse 8 p) (λ e. passes (called c p) (called-valid c p e)) (λ e. tt))
 
-direct-valid : (c : Call) (p : Port) → valid p ≡ true → valid (after (direct c p)) ≡ true
+pub direct-valid : (c : Call) (p : Port) → valid p ≡ true → valid (after (direct c p)) ≡ true
 unfolding direct
 direct-valid c p e = both-arms (λ (r : Answer). valid (after r) ≡ true) (valid p) (called c p) (refuse 8 p) (called-valid c p e) e
 

@@ -18,7 +18,7 @@ use Rattle.sci.specs.Receiver.{input-level}
 use Rattle.sci.specs.Registers.{handles}
 use Rattle.sci.specs.Valid.{limit, valid}
 use Rattle.branches.proofs.Branches.{both-arms, by-cond}
-use Rattle.laws.proofs.Laws.{called-valid}
+use Rattle.laws.proofs.Laws.{direct-valid}
 use Rattle.recovery.specs.Line.{half-passes}
 use Rattle.recovery.specs.Recovery.{Moment, Wired, allowed-in-rest, allowed-in-words, by-8, call-trace, completes, each, line-at-mark, run, step, trace, wait-trace, waited}
 use Rattle.recovery.proofs.Halfwise.{each-call, half-moments, moments, moments-of, rests}
@@ -107,12 +107,8 @@ pub record Grown (s : Wired) : Type 0 where
   pub tested : valid (s .port) ≡ true
   pub near : Near (s .port)
 
-direct-kept : (c : Call) (p : Port) → valid p ≡ true → valid (after (direct c p)) ≡ true
-unfolding direct
-direct-kept c p e = by-cond (λ (a : Answer). valid (after a) ≡ true) (valid p) (called c p) (refuse 8 p) (λ b. called-valid c p e) (λ b. e)
-
 pub grown-step : (c : Call) (s : Wired) → Grown s → Grown (step c (direct c (s .port)) s)
-grown-step c s g = record { lined = lined-step c s (g .lined); tested = direct-kept c (s .port) (g .tested); near = near-direct c (s .port) (g .near) }
+grown-step c s g = record { lined = lined-step c s (g .lined); tested = direct-valid c (s .port) (g .tested); near = near-direct c (s .port) (g .near) }
 
 pub grown-run : (cs : List Call) (s : Wired) → Grown s → Grown (run direct s cs)
 unfolding run

@@ -9,7 +9,7 @@ use lib.ListN.{length, getD}
 use borrow.Author.Tests.{eq-eqb, leb-true, le-leb, not-true}
 use Rattle.frame.specs.declared.Format.{Format}
 use Rattle.sci.specs.declared.Port.{Port}
-use Rattle.frame.proofs.Truth.{and-both, and-left, and-right}
+use Rattle.frame.proofs.Truth.{and-both, and-left, and-right, beq-true}
 use Rattle.frame.specs.Frame.{has}
 use Rattle.sci.specs.Baud.{format-of, internal}
 use Rattle.sci.specs.Calls.{Answer, Call, done, lets-pass, passes-inside, reads, refused, sets-line, sets-pins, sets-power, writes}
@@ -17,12 +17,6 @@ use Rattle.words.specs.Receiver.{rx-clocked}
 use Rattle.recovery.specs.Line.{Count, Event, Item, count-after, half-passes, none-yet, other, prefix, rdr-read, signal, stop-cells-begun, stop-cells-passed, tally-after, values}
 use Rattle.recovery.specs.Recovery.{HistoryEnd, Holds, Moment, Recovered, Recovers, Rest, Wired, Words, accepted, allowed-in-rest, allowed-in-words, answer-is, by-8, call-trace, each, level-of, levels, line-at-mark, one-moment, read-before, run, separated, start, step, throughout, trace, wait-trace, waited}
 use Rattle.recovery.proofs.RestCalls.{levels-append}
-
-same-bits : (x y : Bool) → Bool·beq x y ≡ true → x ≡ y
-same-bits true true e = refl
-same-bits true false e = absurd (false≢true e)
-same-bits false true e = absurd (false≢true e)
-same-bits false false e = refl
 
 bits-same : (x y : Bool) → x ≡ y → Bool·beq x y ≡ true
 bits-same true true e = refl
@@ -40,7 +34,7 @@ prefix-sound : (xs ys : List Bool) → is-prefix xs ys ≡ true → prefix xs ys
 unfolding is-prefix
 prefix-sound [] ys e = tt
 prefix-sound (x ∷ xs) [] e = absurd (false≢true e)
-prefix-sound (x ∷ xs) (y ∷ ys) e = (same-bits x y (and-left (Bool·beq x y) _ e), prefix-sound xs ys (and-right (Bool·beq x y) _ e))
+prefix-sound (x ∷ xs) (y ∷ ys) e = (beq-true x y (and-left (Bool·beq x y) _ e), prefix-sound xs ys (and-right (Bool·beq x y) _ e))
 
 unfoldable pub may-rest : Call → Answer → Bool
 may-rest (writes x v) a = not (accepted a) || (eqb x 0xff9c || eqb x 0xff9d)

@@ -19,7 +19,7 @@ use Rattle.sci.specs.Registers.{cleared, connect, handles, load-tail, read, set
 use Rattle.words.specs.Sender.{holds}
 use Rattle.sci.specs.Sender.{try-start}
 use Rattle.sci.specs.Valid.{limit, valid}
-use Rattle.branches.proofs.Branches.{by-cond}
+use Rattle.branches.proofs.Branches.{by-cond, or-left}
 use Rattle.sci.proofs.ReceiverKeeps.{ReceiverClosed, arm-keeps, basic-keeps, free-receiver, half-keeps, refresh-keeps, sync-edge-keeps}
 use Rattle.sci.proofs.SenderKeeps.{SenderClosed, free-sender, load-tail-keeps, try-keeps}
 use Rattle.recovery.specs.Recovery.{Wired, line-after, run, start, step}
@@ -120,17 +120,13 @@ level-pins c b p =
     by-cond (Level b) (differ b (p .input) || differ c (p .«input_clock»)) (external-edge c q) p
     (λ g. by-cond (Level b) (edge-counts c q) (refresh-sync-clock (sync-edge c (process-basic (edge-counted q c)))) q
     (λ h. level-refresh b (sync-edge c (process-basic (edge-counted q c))) (sync-edge-keeps (Level b) (sends b) (receives b) c (process-basic (edge-counted q c)) (basic-keeps (Level b) (sends b) (receives b) (edge-counted q c) lq))) (λ h. lq))
-    (λ g. same-level b (p .input) (neither (differ b (p .input)) (differ c (p .«input_clock»)) g))
+    (λ g. same-level b (p .input) (or-left (differ b (p .input)) (differ c (p .«input_clock»)) g))
   where
     q : Port
     q = with-input-clock (receive-input b p) c
 
     lq : Level b q
     lq = level-line b p
-
-    neither : (x y : Bool) → (x || y) ≡ false → x ≡ false
-    neither true y e = e
-    neither false y e = refl
 
 -- ---- every call
 called-line : (c : Call) (p : Port) → after (called c p) .input ≡ line-after c (called c p) (p .input)

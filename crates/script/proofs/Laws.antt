@@ -24,7 +24,7 @@ use Rattle.script.specs.Encode.{encode-in, encode}
 -- ---- reading
 
 -- the byte at an offset, and those after it
-drop-next : (s : List ℕ) (at : ℕ) → at < length s → drop at s ≡ getD s at 0 ∷ drop (at + 1) s
+pub drop-next : (s : List ℕ) (at : ℕ) → at < length s → drop at s ≡ getD s at 0 ∷ drop (at + 1) s
 drop-next s at h = rw (add-one, drop-cons s at 0)
 
 -- a byte after the first that is allowed is not zero
