@@ -1,7 +1,7 @@
 -- What the proofs of the port's steps hand to `search`, beside the generated clauses and congruences.
 -- Assumes nothing.
 use mathlib.Core.Path.{_≡_, refl, sym, ap, ap₂, _∙_, subst, subst⁻¹}
-use mathlib.Core.Bool.{Bool, true, false, not, cond, _&&_, _||_, false≢true}
+use mathlib.Core.Bool.{Bool, true, false, not, cond, _&&_, _||_, false≢true, and-false}
 use Prim.Native.Nat.{ℕ, zero, suc, _+_, _-_, _*_, _/_, _%_, _^_, _≤_, zero-le}
 use native.Mathlib.Nat.{mod-le, le-trans, mul-le-mul-left, mul-le-mul-right}
 use native.Mathlib.Numerals.{add-one}
@@ -143,7 +143,7 @@ pub start-f : (t : Tx) (p z : Port) (f : Bool) → f ≡ starts-on t p → f ≡
 start-f Off p z f ef h e = cond-f (has (p .scr) 0x20 && (holds (p .holding) && (not (format-of p .synchronous) || error-free p))) _ p z (none (sym ef ∙ h)) e
   where
     none : holds (p .holding) ≡ false → (has (p .scr) 0x20 && (holds (p .holding) && (not (format-of p .synchronous) || error-free p))) ≡ false
-    none empty = ap (λ (b : Bool). has (p .scr) 0x20 && (b && (not (format-of p .synchronous) || error-free p))) empty ∙ and-no (has (p .scr) 0x20)
+    none empty = ap (λ (b : Bool). has (p .scr) 0x20 && (b && (not (format-of p .synchronous) || error-free p))) empty ∙ and-false (has (p .scr) 0x20)
 start-f (Blocked k) p z f ef h e = absurd (false≢true (sym h ∙ ef))
 start-f (Mark n) p z f ef h e = e
 start-f (Start k n) p z f ef h e = e
