@@ -63,7 +63,7 @@ line-of c r =
 unfoldable pub printed : Port → List Call → List (List ℕ)
 unfolding answered line-of
 printed p [] = []
-printed p (c ∷ cs) = line-of c (answered c p) ∷ printed (after (answered c p)) cs
+printed p (c ∷ cs) = let r : Answer = answered c p in line-of c r ∷ printed (after r) cs
 
 -- 06 03 02 91 FF 03 10 02 9A FF 03 20 02 9B FF 03 55 03 E0 02 01 9C FF 03
 abbrev pub script : List Call
@@ -171,30 +171,21 @@ abbrev pub receiving : ℕ → ℕ → ℕ → List Call
 receiving smr semr spcr =
     line spcr true ∷ sets-power 3 ∷ writes 0xff91 spcr ∷ writes 0xff98 smr ∷ writes 0xffa6 semr ∷ writes 0xff9a 0x10 ∷ []
 
--- SEMR and its cell length, SPCR, the half at which the line falls for one cell, a later half, and SSR then
+-- SEMR and its cell length, SPCR, the half at which the line falls for one cell, and the half that samples the stop cell: SSR is 0x84 before it and 0xc4
+-- after it
 pub data Fallen : Type 0 where
-  falls : ℕ → ℕ → ℕ → ℕ → ℕ → ℕ → Fallen
+  falls : ℕ → ℕ → ℕ → ℕ → ℕ → Fallen
 
 unfoldable pub as-sampled : Fallen → Bool
-unfolding after-calls
-as-sampled (falls semr cell spcr start n ssr) =
-    let fall : List Call = lets-pass start ∷ line spcr false ∷ lets-pass cell ∷ line spcr true ∷ lets-pass (n - (start + cell)) ∷ [] in
-    eqb (after-calls (receiving 0 semr spcr ++ fall) .ssr) ssr
+unfolding after-calls answered
+as-sampled (falls semr cell spcr start n) =
+    let fall : List Call = lets-pass start ∷ line spcr false ∷ lets-pass cell ∷ line spcr true ∷ lets-pass (n - 1 - (start + cell)) ∷ [] in
+    let p : Port = after-calls (receiving 0 semr spcr ++ fall) in
+    eqb (p .ssr) 0x84 && eqb (after (answered (lets-pass 1) p) .ssr) 0xc4
 
 -- the stop cell is sampled at 404, and at 406; with cells of 16 halves at 252, and at 254; with the line inverted as without
 pub stop-samples : every as-sampled
-    (falls 0 32 0 100 403 0x84
-    ∷ falls 0 32 0 100 404 0xc4
-    ∷ falls 0 32 0 101 405 0x84
-    ∷ falls 0 32 0 101 406 0xc4
-    ∷ falls 8 16 0 100 251 0x84
-    ∷ falls 8 16 0 100 252 0xc4
-    ∷ falls 8 16 0 101 253 0x84
-    ∷ falls 8 16 0 101 254 0xc4
-    ∷ falls 0 32 1 100 403 0x84
-    ∷ falls 0 32 1 100 404 0xc4
-    ∷ [])
-    ≡ true
+    (falls 0 32 0 100 404 ∷ falls 0 32 0 101 406 ∷ falls 8 16 0 100 252 ∷ falls 8 16 0 101 254 ∷ falls 0 32 1 100 404 ∷ []) ≡ true
 unfolding every as-sampled
 stop-samples = refl
 

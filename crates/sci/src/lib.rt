@@ -7,7 +7,7 @@ ghost use lib.Dec.{leb};
 ghost use Rattle.words.specs.declared.Receiver.the-variants.{Idle, Busy};
 ghost use Rattle.words.specs.declared.Tx.the-variants.{Off};
 ghost use Rattle.sci.specs.Fields.{with-ssr, with-rdr, with-received, with-holding, with-tx, with-rx, with-sync-next, with-input-clock};
-ghost use Rattle.sci.specs.Baud.{format-of, external, running, internal, edge-counts, next-fall, boundary};
+ghost use Rattle.sci.specs.Baud.{format-of, external, running, edge-counts, next-fall, boundary};
 ghost use Rattle.words.specs.Due.{due-now};
 ghost use Rattle.words.specs.Receiver.{armed, started, bit-at, stepped, sample, bit-taken};
 ghost use Rattle.sci.specs.Receiver.{input-level, arms, arm-receive, complete-receive, after-sample, advance-rx};
@@ -331,15 +331,6 @@ impl Port {
         ensures { λ r. ⌜ r ≡ running self ⌝ }
     {
         self.module & (!self.reset_mode & (self.main | (self.sub & (self.smr & 3 == 1))))
-    }
-
-    // Whether halves pass: the port runs on its internal clock.
-    fn internal(self) -> bool
-        ensures { λ r. ⌜ r ≡ internal self ⌝ }
-    {
-        let running = self.running();
-        let external = self.external();
-        running & !external
     }
 
     // A field that is an enum is not stored to: the struct is made anew.
@@ -932,8 +923,7 @@ impl Port {
         let holding = self.holding;
         let held = holding.full();
         if (self.scr & 0x20 != 0) & (held & (!format.synchronous | !(self.ssr & 0x38 != 0))) {
-            let port = self;
-            return port.preload().started();
+            return self.preload().started();
         }
         self
     }
@@ -969,8 +959,7 @@ impl Port {
         ensures { λ r. ⌜ r ≡ try-start self ⌝ }
     {
         if self.starts() {
-            let port = self;
-            return port.try_start();
+            return self.try_start();
         }
         self
     }
@@ -1054,10 +1043,7 @@ impl Port {
         match tx {
             Tx::Off => self,
             Tx::Blocked { character: _ } => self,
-            Tx::Mark { next: _ } => {
-                let port = self;
-                port.with_tx(Tx::Off).try_start()
-            }
+            Tx::Mark { next: _ } => self.with_tx(Tx::Off).try_start(),
             Tx::Start { character, next: _ } => self.begin(character),
             Tx::Data {
                 character,
@@ -1360,8 +1346,7 @@ impl Port {
         if self.rests() {
             return self;
         }
-        let busy = self;
-        let port = busy.advance_tx().advance_rx();
+        let port = self.advance_tx().advance_rx();
         if port.arms_now() {
             return port.armed();
         }
@@ -1648,7 +1633,9 @@ impl Port {
             if n > 65535 {
                 return self.refuse(Refusal::Operand);
             }
-            if self.internal() {
+            let running = self.running();
+            let external = self.external();
+            if running & !external {
                 if self.half + n <= LIMIT {
                     return self.halves(n).done(0);
                 }

@@ -1,5 +1,5 @@
 use Rattle.frame.proofs.Choose.{cond-t, cond-f, flag-t, flag-f, orders}
-use Rattle.sci.proofs.CallLaws.{done-eq, flag-internal, sum-fits}
+use Rattle.sci.proofs.CallLaws.{done-eq, internal-is, not-external, sum-fits}
 use Rattle.sci.proofs.Checked.{flag-ready}
 use Rattle.sci.specs.Calls.{called, direct}
 use borrow.Author.Needs.{needs}
@@ -15,14 +15,15 @@ wait-spec =
     (λ c κs. search needs)
     (λ c. search (orders, cond-t, cond-f, flag-t, flag-f, needs) depth 10)
     (λ c κs. search needs)
+    (λ c κs. search needs)
     (λ c. search (sum-fits, needs))
-    (λ c κs. search (flag-ready, flag-internal, needs) depth 10)
+    (λ c κs. search (flag-ready, not-external, needs) depth 10)
     (λ c κs. search needs)
-    (λ c. search (done-eq, orders, cond-t, cond-f, flag-t, flag-f, needs) depth 10)
+    (λ c. search (done-eq, internal-is, orders, cond-t, cond-f, flag-t, flag-f, needs) depth 10)
     (λ c κs. search needs)
-    (λ c. search (orders, cond-t, cond-f, flag-t, flag-f, needs) depth 10)
+    (λ c. search (internal-is, orders, cond-t, cond-f, flag-t, flag-f, needs) depth 10)
     (λ c κs. search needs)
     (λ c κs. search needs)
-    (λ c. search (done-eq, orders, cond-t, cond-f, flag-t, flag-f, needs) depth 10)
+    (λ c. search (done-eq, internal-is, orders, cond-t, cond-f, flag-t, flag-f, needs) depth 10)
     (λ c κs. search needs)
     (λ c. search (orders, cond-t, cond-f, flag-t, flag-f, needs) depth 10))
