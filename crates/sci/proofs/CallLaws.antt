@@ -29,12 +29,16 @@ sum-fits r p n e t h = record { fits = omega (arith, flag-ready r p e t .half≤
 pub flag-half : (r : Bool) (p : Port) → r ≡ valid p → r ≡ true → p .half ≤ limit
 flag-half r p e t = flag-ready r p e t .half≤
 
--- whether halves pass, from what two calls gave
+-- halves pass on the internal clock
+pub internal-external : (p : Port) → internal p ≡ true → external p ≡ false
+internal-external p i = not-true (external p) (and-right (running p) (not (external p)) i)
+
+-- whether they pass, from what two calls gave
 pub internal-is : (r x b : Bool) (p : Port) → r ≡ running p → x ≡ external p → (r && not x) ≡ b → internal p ≡ b
 internal-is r x b p er ex t = sym (ap₂ (λ (c d : Bool). c && not d) er ex) ∙ t
 
 pub not-external : (r x : Bool) (p : Port) → r ≡ running p → x ≡ external p → (r && not x) ≡ true → external p ≡ false
-not-external r x p er ex t = not-true (external p) (and-right (running p) (not (external p)) (internal-is r x true p er ex t))
+not-external r x p er ex t = internal-external p (internal-is r x true p er ex t)
 
 -- an edge that passed test 4 has room
 pub edge-room : (f clock : Bool) (p : Port) → f ≡ (edge-counts clock p && leb limit (p .half)) → f ≡ false → edge-counts clock p ≡ true → p .half < limit
