@@ -1,0 +1,153 @@
+-- Document 01's worked cases, computed: direct calls from a fresh port, and what follows. Each table has one theorem, by computation. Its printed run is in
+-- crates/sci/specs/Facts.antt.
+-- Assumes nothing.
+use mathlib.Core.Path.{_≡_, refl}
+use Prim.Native.Nat.{ℕ, _+_, _-_}
+use mathlib.Core.Bool.{Bool, true, false, cond, _&&_}
+use mathlib.Core.List.{List, [], _∷_, _++_}
+use lib.Dec.{eqb}
+use lib.IntN.{pos}
+use Rattle.frame.specs.Frame.{format}
+use Rattle.sci.specs.declared.Port.{Port}
+use Rattle.words.specs.declared.Due.the-variants.{At}
+use Rattle.words.specs.declared.Receiver.the-variants.{Busy}
+use Rattle.words.specs.declared.Tx.{Tx}
+use Rattle.words.specs.declared.Tx.the-variants.{Off, Blocked, Mark, Start, Data, Tail}
+use Rattle.sci.specs.Fields.{with-half, with-rx}
+use Rattle.sci.specs.Power.{fresh}
+use Rattle.sci.specs.Valid.{limit}
+use Rattle.sci.specs.Calls.{Call, reads, writes, lets-pass, sets-line, sets-pins, sets-power, passes-inside, Answer, done, refused, after}
+use Rattle.sci.specs.Facts.{answered, after-calls, line, receiving, words-on-line, receives, as-received}
+
+-- a test that holds of every row
+unfoldable pub every : {Row : Type 0} → (Row → Bool) → List Row → Bool
+every test [] = true
+every test (r ∷ rs) = test r && every test rs
+
+-- ---- refusals
+-- a running port, that port at the last half count, and a port with receive position 10, which 8 data bits without parity do not have
+unfoldable pub on : Port
+unfolding after-calls
+on = after-calls (sets-power 3 ∷ [])
+
+unfoldable pub at-limit : Port
+unfolding on
+at-limit = with-half on limit
+
+unfoldable pub misplaced : Port
+unfolding fresh format
+misplaced =
+    with-rx fresh (Busy (record { format = format 0 0; value = 0; position = pos 10; parity = false; error = 0; next = At 1 }))
+
+-- document 01's number of a refusal, 0 for an accepted call
+abbrev pub refusal : Answer → ℕ
+refusal (done v q) = 0
+refusal (refused n offset q) = n
+
+-- a call, the port it is made on, and the number it gives
+pub data Tried : Type 0 where
+  gives : Call → Port → ℕ → Tried
+
+unfoldable pub as-numbered : Tried → Bool
+unfolding answered
+as-numbered (gives c p n) = eqb (refusal (answered c p)) n
+
+-- document 01's examples; then operands at their ends, and the order of the tests: 8, 2, 1, 3, 4
+abbrev pub refusals : List Tried
+refusals =
+    gives (reads 0xffa5) fresh 1
+    ∷ gives (lets-pass 65536) fresh 2
+    ∷ gives (writes 0xffa7 0x80) fresh 3
+    ∷ gives (lets-pass 1) at-limit 4
+    ∷ gives passes-inside misplaced 8
+    ∷ gives (lets-pass 65535) fresh 0
+    ∷ gives (writes 0xffa7 0x7f) fresh 0
+    ∷ gives (lets-pass 0) at-limit 0
+    ∷ gives (reads 65536) fresh 2
+    ∷ gives (writes 0xff98 256) fresh 2
+    ∷ gives (sets-line 2) fresh 2
+    ∷ gives (sets-pins 0 2) fresh 2
+    ∷ gives (sets-pins 2 0) fresh 2
+    ∷ gives (sets-power 16) fresh 2
+    ∷ gives (reads 65536) misplaced 8
+    ∷ gives (writes 0xffa5 256) fresh 2
+    ∷ gives (writes 0xffa5 0x80) fresh 1
+    ∷ gives (lets-pass 65536) at-limit 2
+    ∷ []
+
+pub refusals-numbered : every as-numbered refusals ≡ true
+unfolding every as-numbered at-limit misplaced fresh
+refusals-numbered = refl
+
+-- ---- the mark after TE is set
+abbrev pub mark-end : Tx → ℕ
+mark-end (Mark n) = n
+mark-end Off = 0
+mark-end (Blocked ch) = 0
+mark-end (Start ch n) = 0
+mark-end (Data ch cell next) = 0
+mark-end (Tail l next) = 0
+
+-- SEMR, whether the port is at the edge when TE is set at half 64, and the half at which mark ends
+pub data Marked : Type 0 where
+  mark-ends : ℕ → Bool → ℕ → Marked
+
+unfoldable pub as-marked : Marked → Bool
+unfolding after-calls
+as-marked (mark-ends semr edge n) =
+    eqb
+    (mark-end
+    (after-calls (sets-power 3 ∷ writes 0xffa6 semr ∷ lets-pass 64 ∷ (cond edge [] (passes-inside ∷ []) ++ (writes 0xff9a 0x20 ∷ []))) .tx)) n
+
+pub marks : every as-marked (mark-ends 0 true 384 ∷ mark-ends 0 false 416 ∷ mark-ends 8 true 224 ∷ mark-ends 8 false 240 ∷ []) ≡ true
+unfolding every as-marked
+marks = refl
+
+-- ---- the first stop cell's sample
+-- SEMR and its cell length, SPCR, the half at which the line falls for one cell, and the half that samples the stop cell: SSR is 0x84 before it and 0xc4
+-- after it
+pub data Fallen : Type 0 where
+  falls : ℕ → ℕ → ℕ → ℕ → ℕ → Fallen
+
+unfoldable pub as-sampled : Fallen → Bool
+unfolding after-calls answered
+as-sampled (falls semr cell spcr start n) =
+    let fall : List Call = lets-pass start ∷ line spcr false ∷ lets-pass cell ∷ line spcr true ∷ lets-pass (n - 1 - (start + cell)) ∷ [] in
+    let p : Port = after-calls (receiving 0 semr spcr ++ fall) in
+    eqb (p .ssr) 0x84 && eqb (after (answered (lets-pass 1) p) .ssr) 0xc4
+
+-- the stop cell is sampled at 404, and at 406; with cells of 16 halves at 252, and at 254; with the line inverted as without
+pub stop-samples : every as-sampled
+    (falls 0 32 0 100 404 ∷ falls 0 32 0 101 406 ∷ falls 8 16 0 100 252 ∷ falls 8 16 0 101 254 ∷ falls 0 32 1 100 404 ∷ []) ≡ true
+unfolding every as-sampled
+stop-samples = refl
+
+-- ---- words received
+-- document 01's words; 0x2AA in cells of 16 halves, and inverted; then framing faults: 0xC4 becomes 0xF4 with RDR kept, 0x84 becomes 0x94 with RDR written;
+-- and a parity fault
+pub words-received : every as-received
+    (receives 0x00 0 32 0 10 (0x2AA ∷ []) 0xc4 0x55 1
+    ∷ receives 0x20 0 32 0 11 (0x602 ∷ []) 0xc4 0x01 1
+    ∷ receives 0x30 0 32 0 11 (0x402 ∷ []) 0xc4 0x01 1
+    ∷ receives 0x24 0 32 0 7 (0x7E ∷ []) 0xc4 0x1F 1
+    ∷ receives 0x64 0 32 0 8 (0xFE ∷ []) 0xc4 0x1F 1
+    ∷ receives 0x48 0 32 0 10 (0x300 ∷ []) 0xc4 0x00 1
+    ∷ receives 0x00 8 16 0 10 (0x2AA ∷ []) 0xc4 0x55 1
+    ∷ receives 0x00 0 32 1 10 (0x2AA ∷ []) 0xc4 0x55 1
+    ∷ receives 0x00 0 32 0 10 (0x2AA ∷ 0x0CC ∷ []) 0xf4 0x55 1
+    ∷ receives 0x00 0 32 0 10 (0x0AA ∷ []) 0x94 0x55 0
+    ∷ receives 0x20 0 32 0 11 (0x402 ∷ []) 0x8c 0x01 0
+    ∷ [])
+    ≡ true
+unfolding every as-received
+words-received = refl
+
+-- ---- the status write
+-- SSR 0xC4 with TE off, these calls, and 0xBF written to SSR
+unfoldable pub written : List Call → ℕ
+unfolding after-calls words-on-line
+written cs = after-calls (receiving 0 0 0 ++ (words-on-line 0 32 10 (0x2AA ∷ []) ++ (cs ++ (writes 0xff9c 0xbf ∷ [])))) .ssr
+
+pub status-written : written (reads 0xff9c ∷ []) ∷ written [] ∷ [] ≡ 0x84 ∷ 0xc4 ∷ []
+unfolding written
+status-written = refl
