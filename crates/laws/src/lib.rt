@@ -1,1 +1,2 @@
-// The laws of the direct calls (specs/Laws.antt) and the manual's receive error table (specs/ReceiveErrors.antt), over sci's definitions. No code.
+// The laws of the direct calls (specs/Laws.antt), the manual's receive error table (specs/ReceiveErrors.antt) and document 01's figures (specs/Facts.antt),
+// over sci's definitions. No code.

@@ -1,6 +1,6 @@
--- What the private steps of a half and of a clock pin's edge compute, where document 01 has no name for it: among it, how halves on which nothing happens
--- are skipped (sci.rs: `deadline` and `step_to`). No public contract cites this file; proofs/Skip.antt proves that it makes of a port what the halves of
--- Half.antt make of it one by one.
+-- What the private steps of a half, of a clock pin's edge and of a store compute, where document 01 has no name for it: among it, how halves on which
+-- nothing happens are skipped (sci.rs: `deadline` and `step_to`). No public contract cites this file; proofs/Skip.antt proves that it makes of a port what
+-- the halves of Half.antt make of it one by one.
 -- Assumes nothing.
 use mathlib.Core.Path.{_≡_}
 use Prim.Native.Nat.{ℕ, zero, suc, _+_, _%_}
