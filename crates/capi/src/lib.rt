@@ -722,7 +722,7 @@ fn pins_number(pins: Pins) -> u64
     let clock = pins.clock;
     let transmit = pins.transmit;
     let driven = clock_number(clock) as u64;
-    let level = transmit.number() as u64;
+    let level = signals::level_number(transmit) as u64;
     driven + (4 * level + 16 * bit(pins.receive))
 }
 
@@ -732,7 +732,7 @@ pub extern "C" fn sci3_pins(state: &[u64]) -> u64
     ensures { λ r. ⌜ r ≡ pins-answer (now (state .entry)) ⌝ }
 {
     if is_state(state) {
-        return pins_number(port_in(state).pins());
+        return pins_number(signals::pins(port_in(state)));
     }
     264
 }
@@ -743,7 +743,7 @@ pub extern "C" fn sci3_interrupt(state: &[u64]) -> u64
     ensures { λ r. ⌜ r ≡ interrupt-answer (now (state .entry)) ⌝ }
 {
     if is_state(state) {
-        return bit(port_in(state).interrupt());
+        return bit(signals::interrupt(port_in(state)));
     }
     264
 }

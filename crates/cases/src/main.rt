@@ -36,11 +36,11 @@ fn print_record(kind: u64, value: u8, port: Port) {
     io::write_all(1, b" ");
     print_byte(port.ssr);
     io::write_all(1, b" ");
-    let pins = port.pins();
+    let pins = signals::pins(port);
     let transmit = pins.transmit;
-    print_level(transmit.number());
+    print_level(signals::level_number(transmit));
     io::write_all(1, b" ");
-    io::print_decimal(1, one_if(port.interrupt()));
+    io::print_decimal(1, one_if(signals::interrupt(port)));
     io::write_all(1, b"\n");
 }
 

@@ -57,10 +57,10 @@ fn write_record(log: &mut [u8], command: Command, value: u8, port: Port)
     ensures { λ _. ⌜ now (log .exit) ≡ record-of command value port ++ drop record-length (now (log .entry)) ⌝ }
 {
     let kind = command.kind();
-    let pins = port.pins();
+    let pins = signals::pins(port);
     let transmit = pins.transmit;
-    let level = transmit.number();
-    let interrupt = one_if(port.interrupt());
+    let level = signals::level_number(transmit);
+    let interrupt = one_if(signals::interrupt(port));
     log[0] = kind;
     log[1] = value;
     log[2] = port.ssr;

@@ -7,12 +7,14 @@ use native.Mathlib.Omega.{arith}
 use lib.Dec.{leb}
 use mir.Syntax.{w8, w32}
 use mir.Val.{Fits}
-use borrow.Author.Tests.{leb-true, leb-false, not-true}
+use borrow.Author.Tests.{le-leb, lt-leb, leb-true, leb-false, not-true}
+use Rattle.frame.proofs.Choose.{cond-t, cond-f}
 use Rattle.frame.proofs.Truth.{and-right}
 use Rattle.sci.specs.declared.Port.{Port}
 use Rattle.sci.specs.Baud.{external, running, internal, edge-counts}
 use Rattle.sci.specs.Valid.{limit, valid}
-use Rattle.sci.specs.Calls.{Answer, done}
+use Rattle.sci.specs.Half.{halves, uncounted}
+use Rattle.sci.specs.Calls.{Call, lets-pass, Answer, done, refuse, called, direct}
 use Rattle.sci.proofs.Checked.{flag-ready}
 
 pub done-eq : (z : Answer) (v w : ℕ) (p q : Port) → z ≡ done v p → v ≡ w → p ≡ q → z ≡ done w q
@@ -41,24 +43,47 @@ pub not-external : (r x : Bool) (p : Port) → r ≡ running p → x ≡ externa
 not-external r x p er ex t = internal-external p (internal-is r x true p er ex t)
 
 -- an edge that passed test 4 has room
-pub edge-room : (f clock : Bool) (p : Port) → f ≡ (edge-counts clock p && leb limit (p .half)) → f ≡ false → edge-counts clock p ≡ true → p .half < limit
-edge-room f clock p e h k = leb-false limit (p .half) (sym (ap (λ (b : Bool). b && leb limit (p .half)) k) ∙ sym e ∙ h)
+pub edge-room : (g clock : Bool) (p : Port) → g ≡ edge-counts clock p → (g && leb limit (p .half)) ≡ false → edge-counts clock p ≡ true → p .half < limit
+edge-room g clock p e h k = leb-false limit (p .half) (sym (ap (λ (b : Bool). b && leb limit (p .half)) (e ∙ k)) ∙ h)
 
--- a test of two parts whose flags calls gave
-pub ands-t : (f g a b : Bool) → f ≡ a → g ≡ b → f ≡ true → g ≡ true → (a && b) ≡ true
-ands-t f g a b e h k l = ap₂ _&&_ (sym e ∙ k) (sym h ∙ l)
+-- the pins change, and an edge goes past the limit, or none does; or they do not change
+pub pins-past : (z a w : Answer) (c g x l : Bool) → c ≡ true → g ≡ x → (g && l) ≡ true → z ≡ a → z ≡ cond (c && (x && l)) a w
+pins-past z a w c g x l t h k e = cond-t (c && (x && l)) a w z (ap₂ _&&_ t (sym (ap (λ (b : Bool). b && l) h) ∙ k)) e
 
-pub ands-left : (f a b : Bool) → f ≡ a → f ≡ false → (a && b) ≡ false
-ands-left f a b e h = ap (λ (x : Bool). x && b) (sym e ∙ h)
+pub pins-set : (z a : Answer) (c g x l : Bool) (r q p : Port) → c ≡ true → g ≡ x → (g && l) ≡ false → z ≡ done 0 r → r ≡ q → z ≡ cond (c && (x && l)) a (done 0 (cond c q p))
+pins-set z a c g x l r q p t h k e i =
+    cond-f (c && (x && l)) a _ z (ap₂ _&&_ t (sym (ap (λ (b : Bool). b && l) h) ∙ k)) (e ∙ ap (done 0) (cond-t c q p r t i))
 
-pub ands-right : (g a b : Bool) → g ≡ b → g ≡ false → (a && b) ≡ false
-ands-right g true b e h = sym e ∙ h
-ands-right g false b e h = refl
+pub pins-same : (z a : Answer) (c x : Bool) (q p : Port) → c ≡ false → z ≡ done 0 p → z ≡ cond (c && x) a (done 0 (cond c q p))
+pins-same z a c x q p t e = cond-f (c && x) a _ z (ap (λ (b : Bool). b && x) t) (e ∙ ap (done 0) (cond-f c q p p t refl))
 
-pub ruleset ands = (ands-t, ands-left, ands-right)
+-- ---- what a call answers, by the tests on the way
+module _ (z : Answer) (p : Port) (v : Bool) (ev : v ≡ valid p) where
+  pub refused-by-8 : (k : Call) → v ≡ false → z ≡ refuse 8 p → z ≡ direct k p
+  unfolding direct
+  refused-by-8 k f e = cond-f (valid p) _ _ z (sym ev ∙ f) e
 
--- the pins change, and no edge goes past the limit
-pub pins-set : (z a : Answer) (f g c x : Bool) (r q p : Port) → f ≡ c → f ≡ true → g ≡ x → g ≡ false → z ≡ done 0 r → r ≡ q → z ≡ cond (c && x) a (done 0 (cond c q p))
-pins-set z a f g c x r q p ef tf eg fg e k =
-    e ∙ ap (done 0) (k ∙ sym (ap (λ (b : Bool). cond b q p) (sym ef ∙ tf)))
-    ∙ sym (ap (λ (b : Bool). cond b a (done 0 (cond c q p))) (ands-right g c x eg fg))
+  pub taken : (k : Call) → v ≡ true → z ≡ called k p → z ≡ direct k p
+  unfolding direct
+  taken k t e = cond-t (valid p) _ _ z (sym ev ∙ t) e
+
+  module _ (n : ℕ) (t : v ≡ true) where
+    pub wait-too-long : 65535 < n → z ≡ refuse 2 p → z ≡ direct (lets-pass n) p
+    unfolding called
+    wait-too-long l e = taken (lets-pass n) t (cond-f (leb n 65535) _ _ z (lt-leb n 65535 l) e)
+
+    module _ (l : n ≤ 65535) (r x : Bool) (er : r ≡ running p) (ex : x ≡ external p) where
+      counts : (b : Bool) → (r && not x) ≡ b → z ≡ cond b (cond (leb (p .half + n) limit) (done 0 (halves n p)) (refuse 4 p)) (done 0 (uncounted n p)) → z ≡ direct (lets-pass n) p
+      unfolding called
+      counts b h e =
+          taken (lets-pass n) t (cond-t (leb n 65535) _ _ z (le-leb n 65535 l)
+          (e ∙ sym (ap (λ (i : Bool). cond i (cond (leb (p .half + n) limit) (done 0 (halves n p)) (refuse 4 p)) (done 0 (uncounted n p))) (internal-is r x b p er ex h))))
+
+      pub wait-counted : (q : Port) → (r && not x) ≡ true → p .half + n ≤ limit → q ≡ halves n p → z ≡ done 0 q → z ≡ direct (lets-pass n) p
+      wait-counted q h m k e = counts true h (cond-t (leb (p .half + n) limit) _ _ z (le-leb (p .half + n) limit m) (e ∙ ap (done 0) k))
+
+      pub wait-past-limit : (r && not x) ≡ true → limit < p .half + n → z ≡ refuse 4 p → z ≡ direct (lets-pass n) p
+      wait-past-limit h m e = counts true h (cond-f (leb (p .half + n) limit) _ _ z (lt-leb (p .half + n) limit m) e)
+
+      pub wait-uncounted : (q : Port) → (r && not x) ≡ false → q ≡ uncounted n p → z ≡ done 0 q → z ≡ direct (lets-pass n) p
+      wait-uncounted q h k e = counts false h (e ∙ ap (done 0) k)

@@ -22,7 +22,7 @@ use Rattle.sci.specs.declared.Port.{Port}
 use Rattle.sci.specs.Clocked.{receive-bit-on, finish-clocked, tail-ends-on, shift-clocked, shift-out-on}
 use Rattle.sci.specs.Receiver.{after-sample, advance-rx-on}
 use Rattle.sci.specs.Registers.{fill-tail, load-tail-on}
-use Rattle.sci.specs.Sender.{loaded-on, preloaded-on, start-loaded, try-start-on, finish-tail, send-step-on}
+use Rattle.sci.specs.Sender.{loaded-on, try-start-on, send-step-on}
 use Rattle.sci.specs.Skip.{arms-on, starts-on}
 
 pub receive-bit-on-idle : (x : Receiver) (y0 : Port) (z : Port) → x ≡ Idle → z ≡ receive-bit-on Idle y0 → z ≡ receive-bit-on x y0
@@ -124,18 +124,6 @@ loaded-on-empty x y0 z h e = e ∙ sym (ap (λ (t : Holding). loaded-on t y0) h)
 pub loaded-on-byte : (x : Holding) (c0 : ℕ) (y0 : Port) (z : Loaded) → x ≡ Byte c0 → z ≡ loaded-on (Byte c0) y0 → z ≡ loaded-on x y0
 loaded-on-byte x c0 y0 z h e = e ∙ sym (ap (λ (t : Holding). loaded-on t y0) h)
 
-pub preloaded-on-empty : (x : Holding) (y0 : Port) (z : Port) → x ≡ Empty → z ≡ preloaded-on Empty y0 → z ≡ preloaded-on x y0
-preloaded-on-empty x y0 z h e = e ∙ sym (ap (λ (t : Holding). preloaded-on t y0) h)
-
-pub preloaded-on-byte : (x : Holding) (c0 : ℕ) (y0 : Port) (z : Port) → x ≡ Byte c0 → z ≡ preloaded-on (Byte c0) y0 → z ≡ preloaded-on x y0
-preloaded-on-byte x c0 y0 z h e = e ∙ sym (ap (λ (t : Holding). preloaded-on t y0) h)
-
-pub start-loaded-nothing : (x : Loaded) (y0 : Port) (z : Port) → x ≡ Nothing → z ≡ start-loaded Nothing y0 → z ≡ start-loaded x y0
-start-loaded-nothing x y0 z h e = e ∙ sym (ap (λ (t : Loaded). start-loaded t y0) h)
-
-pub start-loaded-next : (x : Loaded) (c0 : Character) (y0 : Port) (z : Port) → x ≡ Next c0 → z ≡ start-loaded (Next c0) y0 → z ≡ start-loaded x y0
-start-loaded-next x c0 y0 z h e = e ∙ sym (ap (λ (t : Loaded). start-loaded t y0) h)
-
 pub try-start-on-off : (x : Tx) (y0 : Port) (z : Port) → x ≡ Off → z ≡ try-start-on Off y0 → z ≡ try-start-on x y0
 try-start-on-off x y0 z h e = e ∙ sym (ap (λ (t : Tx). try-start-on t y0) h)
 
@@ -153,12 +141,6 @@ try-start-on-data x c0 c1 c2 y0 z h e = e ∙ sym (ap (λ (t : Tx). try-start-on
 
 pub try-start-on-tail : (x : Tx) (c0 : Loaded) (c1 : Due) (y0 : Port) (z : Port) → x ≡ Tail c0 c1 → z ≡ try-start-on (Tail c0 c1) y0 → z ≡ try-start-on x y0
 try-start-on-tail x c0 c1 y0 z h e = e ∙ sym (ap (λ (t : Tx). try-start-on t y0) h)
-
-pub finish-tail-nothing : (x : Loaded) (y0 : Port) (z : Port) → x ≡ Nothing → z ≡ finish-tail Nothing y0 → z ≡ finish-tail x y0
-finish-tail-nothing x y0 z h e = e ∙ sym (ap (λ (t : Loaded). finish-tail t y0) h)
-
-pub finish-tail-next : (x : Loaded) (c0 : Character) (y0 : Port) (z : Port) → x ≡ Next c0 → z ≡ finish-tail (Next c0) y0 → z ≡ finish-tail x y0
-finish-tail-next x c0 y0 z h e = e ∙ sym (ap (λ (t : Loaded). finish-tail t y0) h)
 
 pub send-step-on-off : (x : Tx) (y0 : Port) (z : Port) → x ≡ Off → z ≡ send-step-on Off y0 → z ≡ send-step-on x y0
 send-step-on-off x y0 z h e = e ∙ sym (ap (λ (t : Tx). send-step-on t y0) h)
@@ -222,13 +204,7 @@ pub ruleset load-tail-on-clauses = (load-tail-on-off, load-tail-on-blocked, load
 
 pub ruleset loaded-on-clauses = (loaded-on-empty, loaded-on-byte)
 
-pub ruleset preloaded-on-clauses = (preloaded-on-empty, preloaded-on-byte)
-
-pub ruleset start-loaded-clauses = (start-loaded-nothing, start-loaded-next)
-
 pub ruleset try-start-on-clauses = (try-start-on-off, try-start-on-blocked, try-start-on-mark, try-start-on-start, try-start-on-data, try-start-on-tail)
-
-pub ruleset finish-tail-clauses = (finish-tail-nothing, finish-tail-next)
 
 pub ruleset send-step-on-clauses = (send-step-on-off, send-step-on-blocked, send-step-on-mark, send-step-on-start, send-step-on-data, send-step-on-tail)
 

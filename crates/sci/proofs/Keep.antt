@@ -36,7 +36,7 @@ use Rattle.words.specs.Receiver.{next-position, armed, sample-at, sample, last-
 use Rattle.words.specs.Due.{due-now}
 use Rattle.sci.specs.Receiver.{input-level, error-free, arms, arm-receive-on, arm-receive, complete-receive, after-sample, advance-rx-on, advance-rx}
 use Rattle.words.specs.Sender.{level, holds, tx-next}
-use Rattle.sci.specs.Sender.{loaded-on, preloaded-on, loaded, preloaded, preload, drive, begin, start-at, start-loaded, try-start-on, try-start, one-sent, finish-tail, tailed, next-cell, send-step-on, advance-tx}
+use Rattle.sci.specs.Sender.{loaded-on, preloaded-on, loaded, preloaded, drive, begin, start-at, start-loaded, try-start-on, try-start, one-sent, finish-tail, tailed, next-cell, send-step-on, advance-tx}
 use Rattle.sci.specs.Clocked.{with-clock, refresh-sync-clock, take-bit, receive-bit-on, receive-bit, tail-ends-on, tail-ends, bit-out, shift-out-on, shift-out, sync-edge}
 use Rattle.sci.specs.Half.{process-basic, clocked-edge}
 use Rattle.sci.specs.Registers.{scr-tx, scr-rx, write-scr, write-tdr, status-with, status-write, stored, connect, load-tail-on, load-tail}
@@ -112,7 +112,7 @@ module _ {n : ℕ} {p : Port} (r : Ready n p) where
       both-arms (Ready n) (k .format .synchronous) _ _ (keep-begin k f) (keep-start-at k (boundary p (k .format .«half_bit»)) f)
 
   -- a word's last cells, with whatever the holding place has
-  pub keep-tailed : (next : Due) → Ready n (tailed (preload p) next)
+  pub keep-tailed : (next : Due) → Ready n (tailed p next)
   keep-tailed next = keep-tx (keep-preloaded r) (Tail (loaded p) next) (loaded-bounded p)
 
 module _ {n : ℕ} {p : Port} (r : Ready n p) where

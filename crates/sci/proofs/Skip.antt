@@ -1,7 +1,7 @@
 -- Halves on which nothing happens only count, so that a run of them may be counted at once; and what the loop of `halves` cites.
 -- Assumes nothing.
 use mathlib.Core.Path.{_≡_, refl, sym, ap, ap₂, _∙_, subst, subst⁻¹}
-use mathlib.Core.Bool.{Bool, true, false, not, cond, _&&_, true≢false, false≢true}
+use mathlib.Core.Bool.{Bool, true, false, not, cond, _&&_, _||_, or-false, true≢false, false≢true}
 use Prim.Native.Nat.{ℕ, zero, suc, _+_, _-_, _%_, _≤_, _<_}
 use native.Mathlib.Omega.{arith}
 use native.Mathlib.Nat.{le-trans, zero-add, suc-add}
@@ -23,13 +23,13 @@ use Rattle.sci.specs.Fields.{with-half, with-high, with-edge, with-input
 use Rattle.sci.specs.Baud.{external, running, counted, edge-counted, edge-counts}
 use Rattle.sci.specs.Clocked.{refresh-sync-clock, sync-edge}
 use Rattle.sci.specs.Half.{process-basic, clocked-edge, advance, half-step, halves}
-use Rattle.sci.specs.Skip.{arms-on, clock-fresh, deadline, counted-by, idle-for, edge-now, edge-level, toggled, edge-of, edge-work, Clocked, edges}
+use Rattle.sci.specs.Skip.{arms-on, clock-fresh, deadline, counted-by, idle-for, toggled, edge-of, edge-work, Clocked, edges}
 use Rattle.sci.specs.Pins.{receive-input, external-edge}
 use Rattle.sci.specs.Valid.{limit}
 use Rattle.sci.specs.Ready.{Ready}
 use Rattle.sci.proofs.Keep.{own, keep-process-basic, keep-sync-edge, keep-clocked-edge, keep-refresh-sync-clock, keep-counted, sync-edge-ready, clocked-edge-ready, with-clock-ready}
 use Rattle.sci.proofs.SenderKeeps.{free-sender}
-use Rattle.sci.proofs.ReceiverKeeps.{free-receiver, basic-keeps, clocked-edge-keeps, advance-keeps}
+use Rattle.sci.proofs.ReceiverKeeps.{free-receiver, advance-keeps}
 use Rattle.sci.proofs.OnePass.{basic-still, edge-still, refresh-still, half-once}
 
 -- ---- the first half that is due
@@ -197,9 +197,10 @@ deadline-bounds p left k l e =
     (c .0, le-trans (c .1) (le-trans (b .1) (a .1))))
     (λ g. (omega arith, l))))
 
-pub skip-deadline : (p : Port) (left k : ℕ) → Ready (p .half) p → external p ≡ false → 1 ≤ left → p .half + left ≤ limit → k ≡ deadline left p → advance (counted-by k p) ≡ halves k p
+-- before the last of them, where there are more than one, all is still
+deadline-still : (p : Port) (left i : ℕ) → 1 ≤ left → suc (suc i) ≡ deadline left p → Still (suc i) p
 unfolding deadline
-skip-deadline p left k r x l h e = go (arms-on (p .rx) p) (clock-fresh p) refl refl e
+deadline-still p left i l e = go (arms-on (p .rx) p) (clock-fresh p) refl refl e
   where
     sent : ℕ
     sent = within (tx-next (p .tx)) (p .half) left
@@ -210,35 +211,26 @@ skip-deadline p left k r x l h e = go (arms-on (p .rx) p) (clock-fresh p) refl r
     first : ℕ
     first = within (p .«sync_next») (p .half) taken
 
-    Same : ℕ → Type 0
-    Same m = advance (counted-by m p) ≡ halves m p
-
-    one : k ≡ 1 → Same k
-    one f = subst⁻¹ Same f (sym (one-half p r (omega (arith, l, h)) x))
-
-    some : (j : ℕ) → arms-on (p .rx) p ≡ false → clock-fresh p ≡ true → j ≡ first → Same j
-    some j a f d =
+    go : (a f : Bool) → arms-on (p .rx) p ≡ a → clock-fresh p ≡ f → suc (suc i) ≡ cond a 1 (cond f first 1) → Still (suc i) p
+    go true f u v d = absurd (omega (arith, d))
+    go false false u v d = absurd (omega (arith, d))
+    go false true u v d =
         let s = within-bounds (tx-next (p .tx)) (p .half) left l in
         let t = within-bounds (rx-next (p .rx)) (p .half) sent (s .0) in
         let c = within-bounds (p .«sync_next») (p .half) taken (t .0) in
-        up j d (s .1) (t .1) c
-      where
-        up : (i : ℕ) → i ≡ first → sent ≤ left → taken ≤ sent → (1 ≤ first) × (first ≤ taken) → Same i
-        up zero d s t c = absurd (omega (arith, d, c .0))
-        up (suc i) d s t c =
-            sym (skip i p r (omega (arith, d, s, t, c .1, h)) x
-            (record {
-              unarmed = a;
-              fresh = f;
-              sends = within-clear (tx-next (p .tx)) (p .half) left i (omega (arith, d, t, c .1));
-              receives = within-clear (rx-next (p .rx)) (p .half) sent i (omega (arith, d, c .1));
-              clocks = within-clear (p .«sync_next») (p .half) taken i (omega (arith, d));
-            }))
+        record {
+          unarmed = u;
+          fresh = v;
+          sends = within-clear (tx-next (p .tx)) (p .half) left (suc i) (omega (arith, d, t .1, c .1));
+          receives = within-clear (rx-next (p .rx)) (p .half) sent (suc i) (omega (arith, d, c .1));
+          clocks = within-clear (p .«sync_next») (p .half) taken (suc i) (omega (arith, d));
+        }
 
-    go : (a f : Bool) → arms-on (p .rx) p ≡ a → clock-fresh p ≡ f → k ≡ cond a 1 (cond f first 1) → Same k
-    go true f u v d = one d
-    go false false u v d = one d
-    go false true u v d = some k u v d
+pub skip-deadline : (p : Port) (left k : ℕ) → Ready (p .half) p → external p ≡ false → 1 ≤ left → p .half + left ≤ limit → k ≡ deadline left p → advance (counted-by k p) ≡ halves k p
+skip-deadline p left zero r x l h e = absurd (omega (arith, deadline-bounds p left zero l e .0))
+skip-deadline p left (suc zero) r x l h e = sym (one-half p r (omega (arith, l, h)) x)
+skip-deadline p left (suc (suc i)) r x l h e =
+    sym (skip (suc i) p r (omega (arith, h, deadline-bounds p left (suc (suc i)) l e .1)) x (deadline-still p left i l e))
 
 -- SCR is kept, so a port on the internal clock stays there
 abbrev Internal : Port → Type 0
@@ -248,25 +240,20 @@ pub advance-internal : (p : Port) → Internal p → Internal (advance p)
 advance-internal p x =
     advance-keeps Internal (free-sender Internal (λ q t u b s x k. k) (λ q n k. k)) (free-receiver Internal (λ q x s v n k. k)) (λ q d b k. k) p x
 
-edge-internal : (p : Port) → Internal p → Internal (clocked-edge (process-basic p))
-edge-internal p x =
-    let s = free-sender Internal (λ q t u b s x k. k) (λ q n k. k) in
-    let c = free-receiver Internal (λ q x s v n k. k) in
-    clocked-edge-keeps Internal s c (λ q d b k. k) (process-basic p) (basic-keeps Internal s c p x)
-
 -- ---- the work of an edge of the basic clock
 pub toggled-ready : (q p : Port) (pin : Bool) → q ≡ toggled pin p → Ready (p .half) p → Ready (q .half) q
 toggled-ready q p true e r = with-clock-ready q p (p .«sync_next») (p .sck) e r
 toggled-ready q p false e r = with-clock-ready q p Never (not (p .sck)) e r
 
-pub edge-t : (z q p : Port) (pin level f h : Bool) → f ≡ edge-now pin p → f ≡ true → h ≡ edge-level pin level p → q ≡ toggled pin p → z ≡ sync-edge h q → z ≡ edge-of pin level p
+pub edge-t : (z q p : Port) (pin level d : Bool) → d ≡ due-now (p .«sync_next») (p .half) → (pin || d) ≡ true → q ≡ toggled pin p
+    → z ≡ sync-edge ((pin && level) || not (pin || p .sck)) q → z ≡ edge-of pin level p
 unfolding clocked-edge
-edge-t z q p true level f h ef t eh eq e = e ∙ ap₂ sync-edge eh eq
-edge-t z q p false level f h ef t eh eq e = cond-t (due-now (p .«sync_next») (p .half)) _ p z (sym ef ∙ t) (e ∙ ap₂ sync-edge eh eq)
+edge-t z q p true level d ed t eq e = e ∙ ap₂ sync-edge (or-false level) eq
+edge-t z q p false level d ed t eq e = cond-t (due-now (p .«sync_next») (p .half)) _ p z (sym ed ∙ t) (e ∙ ap (sync-edge (not (p .sck))) eq)
 
-pub edge-f : (z p : Port) (pin level f : Bool) → f ≡ edge-now pin p → f ≡ false → z ≡ p → z ≡ edge-of pin level p
-edge-f z p true level f ef t e = absurd (true≢false (sym ef ∙ t))
-edge-f z p false level f ef t e = e ∙ sym (edge-still p (sym ef ∙ t))
+pub edge-f : (z p : Port) (pin level d : Bool) → d ≡ due-now (p .«sync_next») (p .half) → (pin || d) ≡ false → z ≡ p → z ≡ edge-of pin level p
+edge-f z p true level d ed t e = absurd (true≢false t)
+edge-f z p false level d ed t e = e ∙ sym (edge-still p (sym ed ∙ t))
 
 pub edge-ready : (r p : Port) (pin level : Bool) → r ≡ edge-of pin level p → Ready (p .half) p → Ready (r .half) r
 edge-ready r p true level e h = sync-edge-ready r p level e h

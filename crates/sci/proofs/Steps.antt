@@ -1,13 +1,13 @@
 -- What the proofs of the port's steps hand to `search`, beside the generated clauses and congruences.
 -- Assumes nothing.
 use mathlib.Core.Path.{_≡_, refl, sym, ap, ap₂, _∙_, subst, subst⁻¹}
-use mathlib.Core.Bool.{Bool, true, false, not, cond, _&&_, _||_, false≢true, and-false}
-use Prim.Native.Nat.{ℕ, zero, suc, _+_, _-_, _*_, _/_, _%_, _^_, _≤_, zero-le}
-use native.Mathlib.Nat.{mod-le, le-trans, mul-le-mul-left, mul-le-mul-right}
+use mathlib.Core.Bool.{Bool, true, false, not, cond, _&&_, _||_, true≢false, false≢true, and-true, and-false}
+use Prim.Native.Nat.{ℕ, zero, suc, _+_, _-_, _*_, _%_, _^_, _≤_, zero-le}
+use native.Mathlib.Nat.{suc-ne-zero, mod-le, le-trans, mul-le-mul-left, mul-le-mul-right}
 use native.Mathlib.Numerals.{add-one}
 use native.Mathlib.Omega.{arith}
-use lib.Bits.{bitAnd, and-le-r}
-use lib.Dec.{eqb, leb}
+use lib.Bits.{bitAnd, bitOr, and-le-r}
+use lib.Dec.{eqb}
 use mir.Syntax.{w8, w32}
 use mir.Val.{Fits}
 use types.Run.{OneOf, miss}
@@ -24,32 +24,29 @@ use Rattle.words.specs.Sender.{holds}
 use Rattle.words.proofs.Steps.{dues}
 use Rattle.words.proofs.Tx.{the-type}
 use Rattle.sci.specs.declared.Port.{Port}
-use Rattle.sci.specs.declared.Clock.{Clock}
-use Rattle.sci.specs.declared.Clock.the-variants.{Driven}
-use Rattle.sci.specs.declared.Drive.the-variants.{High, Low}
 use Rattle.words.specs.declared.Due.{Due}
 use Rattle.words.specs.declared.Due.the-variants.{Never, At}
 use Rattle.words.specs.declared.Character.{Character}
+use Rattle.words.specs.declared.Holding.{Holding}
+use Rattle.words.specs.declared.Holding.the-variants.{Empty, Byte}
 use Rattle.words.specs.declared.Loaded.{Loaded}
-use Rattle.words.specs.declared.Loaded.the-variants.{Next}
-use Rattle.sci.specs.declared.Preloaded.{Preloaded}
+use Rattle.words.specs.declared.Loaded.the-variants.{Nothing, Next}
 use Rattle.words.specs.declared.Rx.{Rx}
 use Rattle.words.specs.declared.Receiver.{Receiver}
 use Rattle.words.specs.declared.Receiver.the-variants.{Idle, Busy}
 use Rattle.words.specs.declared.Sampled.the-variants.{Onward, Whole}
 use Rattle.words.specs.declared.Tx.{Tx}
 use Rattle.words.specs.declared.Tx.the-variants.{Off, Blocked, Mark, Start, Data, Tail}
-use Rattle.sci.specs.Receiver.{arms, error-free, arm-receive-on, arm-receive, advance-rx}
+use Rattle.sci.specs.Receiver.{input-level, arms, error-free, arm-receive-on, arm-receive, advance-rx}
 use Rattle.sci.specs.Skip.{arms-on, starts-on}
-use Rattle.sci.specs.Fields.{with-tx, with-rx}
+use Rattle.sci.specs.Fields.{with-ssr, with-holding, with-tx, with-rx, with-edge, with-transmitted}
 use Rattle.sci.specs.Baud.{format-of, next-fall, boundary}
 use Rattle.words.specs.Receiver.{armed, clocked-word}
 use Rattle.sci.specs.Clocked.{tail-ends-on, shift-out-on, refresh-sync-clock}
 use Rattle.sci.specs.Registers.{load-tail-on, load-tail, settled, sender-on}
-use Rattle.sci.specs.Sender.{try-start-on, try-start, loaded, preloaded, preload, start-loaded, tailed, one-sent, advance-tx}
-use Rattle.sci.specs.Pins.{high-or-low}
-use Rattle.sci.specs.Power.{reset, with-power}
-use Rattle.sci.specs.Half.{process-basic, inside, uncounted}
+use Rattle.sci.specs.Sender.{begin, start-at, try-start-on, try-start, loaded, preloaded-on, preloaded, start-loaded, tailed, one-sent, finish-tail, advance-tx}
+use Rattle.sci.specs.Power.{fresh, carried, reset-registers, reset, with-power}
+use Rattle.sci.specs.Half.{process-basic, uncounted}
 use Rattle.sci.specs.Valid.{limit}
 use Rattle.words.specs.Ready.{Bounded, Placed, PlacedIn, LoadedBounded, Below, Sendable, Plain}
 
@@ -235,12 +232,14 @@ wraps r n e = e ∙ ap (λ (x : ℕ). x % 2 ^ 64) (add-one n)
 pub ruleset counts = (plus-one, plus-two, wraps)
 
 -- ---- n halves' time that no clock counts
-pub uncounted-none : (n : ℕ) (p z : Port) → n ≡ 0 → z ≡ p → z ≡ uncounted n p
-uncounted-none n p z h e = e ∙ sym (ap (λ (k : ℕ). uncounted k p) h)
+pub uncounted-of : (n : ℕ) (p z : Port) → z ≡ with-edge p (p .edge && eqb n 0) → z ≡ uncounted n p
+uncounted-of zero p z e = e ∙ ap (with-edge p) (and-true (p .edge))
+uncounted-of (suc n) p z e =
+    e ∙ ap (λ (b : Bool). with-edge p (p .edge && b)) (ne-eqb (suc n) 0 (suc-ne-zero n)) ∙ ap (with-edge p) (and-false (p .edge))
 
-pub uncounted-some : (n : ℕ) (p z : Port) → (n ≡ 0 → ⊥) → z ≡ inside p → z ≡ uncounted n p
-uncounted-some zero p z h e = absurd (h refl)
-uncounted-some (suc n) p z h e = e
+-- whether a word begins, from what two calls gave
+pub arms-of : (z l : Bool) (f : Format) (p : Port) → f ≡ format-of p → l ≡ input-level p → z ≡ (has (p .scr) 0x10 && (error-free p && (not (f .synchronous) && not l))) → z ≡ arms p
+arms-of z l f p hf hl e = e ∙ ap₂ (λ (g : Format) (x : Bool). has (p .scr) 0x10 && (error-free p && (not (g .synchronous) && not x))) hf hl
 
 -- ---- lengths that fit 32 bits
 -- a frame has at most twelve cells
@@ -272,24 +271,12 @@ mark-end b c p f hb hn e h =
     let near : b ≤ p .half + f .«half_bit» = subst⁻¹ (λ (x : ℕ). x ≤ p .half + f .«half_bit») hb (boundary-near p (f .«half_bit»)) in
     record { fits = omega (arith, h .half≤32, product≤ c (f .«half_bit») 12 32 (subst⁻¹ (λ (x : ℕ). x ≤ 12) e (cells≤ f h)) (h .half≤32)) }
 
--- the clock pin driven at a level
-pub drives-high : (b : Bool) (z : Clock) → b ≡ true → z ≡ Driven High → z ≡ Driven (high-or-low b)
-drives-high b z h e = e ∙ sym (ap (λ (x : Bool). Driven (high-or-low x)) h)
-
-pub drives-low : (b : Bool) (z : Clock) → b ≡ false → z ≡ Driven Low → z ≡ Driven (high-or-low b)
-drives-low b z h e = e ∙ sym (ap (λ (x : Bool). Driven (high-or-low x)) h)
-
-pub ruleset drives = (drives-high, drives-low)
-
 -- ---- what a call gave, in a sum or a test
 pub mod-le-sum : (n m : ℕ) → n % m ≤ n + m
 mod-le-sum n m = omega (arith, mod-le n m)
 
 pub mask-fits : (a : ℕ) → bitAnd a 0xf8 ≤ 255
 mask-fits a = omega (arith, and-le-r a 0xf8)
-
-pub second-half : (f g : Format) (h : ℕ) → f ≡ g → leb (f .«half_bit» / 2) (h % f .«half_bit») ≡ leb (g .«half_bit» / 2) (h % g .«half_bit»)
-second-half f g h e = ap (λ (x : Format). leb (x .«half_bit» / 2) (h % x .«half_bit»)) e
 
 -- the word of a value in the format that the registers give
 pub word-now : (w : ℕ) (f : Format) (smr semr v : ℕ) → w ≡ cond (format-valid f) (word f v) 0 → f ≡ format smr semr → w ≡ word (format smr semr) v
@@ -310,11 +297,35 @@ pub clocked-synchronous : (r : Rx) (f : Format) → r ≡ clocked-word f → f .
 clocked-synchronous r f e h = ap (λ (x : Rx). x .format .synchronous) e ∙ h
 
 -- the held byte loaded, and what is then done with it
-pub tailed-load : (z : Port) (l : Preloaded) (p q : Port) (n : Due) → z ≡ tailed l n → l ≡ preload p → p ≡ q → z ≡ tailed (preload q) n
-tailed-load z l p q n e h k = e ∙ ap (λ (x : Preloaded). tailed x n) (h ∙ ap preload k)
+pub preloaded-t : (z p : Port) (f : Bool) → f ≡ holds (p .holding) → f ≡ true → z ≡ with-holding (with-ssr p (bitAnd (bitOr (p .ssr) 0x80) 0xfb)) Empty → z ≡ preloaded p
+unfolding preloaded
+preloaded-t z p f h t = go (p .holding) (sym h ∙ t) where
+  go : (x : Holding) → holds x ≡ true → z ≡ with-holding (with-ssr p (bitAnd (bitOr (p .ssr) 0x80) 0xfb)) Empty → z ≡ preloaded-on x p
+  go Empty k e = absurd (false≢true k)
+  go (Byte v) k e = e
 
-pub started-load : (z : Port) (l : Preloaded) (p : Port) → z ≡ start-loaded (l .loaded) (l .port) → l ≡ preload p → z ≡ start-loaded (loaded p) (preloaded p)
-started-load z l p e h = e ∙ ap (λ (x : Preloaded). start-loaded (x .loaded) (x .port)) h
+pub preloaded-f : (z p : Port) (f : Bool) → f ≡ holds (p .holding) → f ≡ false → z ≡ with-ssr p (bitOr (p .ssr) 4) → z ≡ preloaded p
+unfolding preloaded
+preloaded-f z p f h t = go (p .holding) (sym h ∙ t) where
+  go : (x : Holding) → holds x ≡ false → z ≡ with-ssr p (bitOr (p .ssr) 4) → z ≡ preloaded-on x p
+  go Empty k e = e
+  go (Byte v) k e = absurd (true≢false k)
+
+pub tail-of : (z q p : Port) (l : Loaded) (n : Due) → l ≡ loaded p → q ≡ preloaded p → z ≡ with-tx q (Tail l n) → z ≡ tailed p n
+tail-of z q p l n h k e = e ∙ ap₂ (λ (x : Port) (y : Loaded). with-tx x (Tail y n)) k h
+
+module _ (z q p : Port) (l : Loaded) (h : l ≡ loaded p) (k : q ≡ preloaded p) where
+  start-of : (m : Loaded) → l ≡ m → z ≡ start-loaded m q → z ≡ start-loaded (loaded p) (preloaded p)
+  start-of m c e = e ∙ ap₂ start-loaded (sym c ∙ h) k
+
+  pub start-none : l ≡ Nothing → z ≡ q → z ≡ start-loaded (loaded p) (preloaded p)
+  start-none c e = start-of Nothing c e
+
+  pub start-clocked : (ch : Character) → l ≡ Next ch → ch .format .synchronous ≡ true → z ≡ begin q ch → z ≡ start-loaded (loaded p) (preloaded p)
+  start-clocked ch c t e = start-of (Next ch) c (cond-t (ch .format .synchronous) _ _ z t e)
+
+  pub start-cell : (ch : Character) → l ≡ Next ch → ch .format .synchronous ≡ false → z ≡ start-at q ch (boundary q (ch .format .«half_bit»)) → z ≡ start-loaded (loaded p) (preloaded p)
+  start-cell ch c t e = start-of (Next ch) c (cond-f (ch .format .synchronous) _ _ z t e)
 
 -- the number of a cell, and of the stop cell that a call gave
 pub stop-t : (c s t : ℕ) → s ≡ t → c ≡ s → eqb c t ≡ true
@@ -323,14 +334,37 @@ stop-t c s t h e = eq-eqb c t (e ∙ h)
 pub stop-f : (c s t : ℕ) → s ≡ t → (c ≡ s → ⊥) → eqb c t ≡ false
 stop-f c s t h e = ne-eqb c t (λ q. e (q ∙ sym h))
 
-pub ruleset loads = (tailed-load, started-load, stop-t, stop-f)
+pub ruleset stops = (stop-t, stop-f)
+
+-- a word is finished, by the supplied add
+pub sent-of : (r p : Port) (n : ℕ) → r ≡ with-tx (with-transmitted p n) Off → n ≡ (p .transmitted + 1) % 2 ^ 64 → r ≡ one-sent p
+sent-of r p n e h = e ∙ ap (λ (x : ℕ). with-tx (with-transmitted p x) Off) (wraps n (p .transmitted) h)
+
+-- then the tail ends
+module _ (z r p : Port) (l : Loaded) (n : ℕ) (e : r ≡ with-tx (with-transmitted p n) Off) (h : n ≡ (p .transmitted + 1) % 2 ^ 64) where
+  pub finish-none : l ≡ Nothing → z ≡ try-start r → z ≡ finish-tail l p
+  finish-none c d = d ∙ ap try-start (sent-of r p n e h) ∙ sym (ap (λ (x : Loaded). finish-tail x p) c)
+
+  pub finish-blocked : (ch : Character) → l ≡ Next ch → (ch .format .synchronous && has (p .ssr) 0x38) ≡ true → z ≡ with-tx r (Blocked ch) → z ≡ finish-tail l p
+  finish-blocked ch c t d =
+      cond-t (ch .format .synchronous && not (error-free p)) _ _ z (sym (ap (λ (b : Bool). ch .format .synchronous && b) (flagged (p .ssr) 0x38)) ∙ t)
+      (d ∙ ap (λ (x : Port). with-tx x (Blocked ch)) (sent-of r p n e h))
+      ∙ sym (ap (λ (x : Loaded). finish-tail x p) c)
+
+  pub finish-begins : (ch : Character) → l ≡ Next ch → (ch .format .synchronous && has (p .ssr) 0x38) ≡ false → z ≡ begin r ch → z ≡ finish-tail l p
+  finish-begins ch c t d =
+      cond-f (ch .format .synchronous && not (error-free p)) _ _ z (sym (ap (λ (b : Bool). ch .format .synchronous && b) (flagged (p .ssr) 0x38)) ∙ t)
+      (d ∙ ap (λ (x : Port). begin x ch) (sent-of r p n e h))
+      ∙ sym (ap (λ (x : Loaded). finish-tail x p) c)
 
 -- no sender, so nothing is asked of it
-pub sent-sendable : (r p : Port) → r ≡ one-sent p → Sendable (r .tx)
-sent-sendable r p e = subst⁻¹ (λ (x : Port). Sendable (x .tx)) e tt
-
 pub off-after : (r p : Port) → r ≡ with-tx p Off → Sendable (r .tx)
 off-after r p e = subst⁻¹ (λ (x : Port). Sendable (x .tx)) e tt
+
+-- a reset, what it keeps put into a fresh port
+pub reset-of : (r p z : Port) (spcr : ℕ) → r ≡ fresh → z ≡ carried spcr p r → z ≡ reset-registers spcr p
+unfolding reset-registers
+reset-of r p z spcr h e = e ∙ ap (carried spcr p) h
 
 -- the power set after a reset
 pub power-of : (z r p : Port) (module-on main-on sub-on reset-on : Bool) → z ≡ refresh-sync-clock (with-power r module-on main-on sub-on reset-on) → r ≡ reset module-on reset-on p

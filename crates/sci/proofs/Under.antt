@@ -14,10 +14,11 @@ use Rattle.words.specs.declared.Sampled.{Sampled}
 use Rattle.sci.specs.declared.Port.{Port}
 use Rattle.sci.specs.Clocked.{take-bit, tail-ends}
 use Rattle.sci.specs.Fields.{with-sync-next, with-tx, with-rx, with-holding}
-use Rattle.sci.specs.Power.{carried}
+use Rattle.sci.specs.Half.{uncounted}
+use Rattle.sci.specs.Power.{reset}
 use Rattle.sci.specs.Receiver.{complete-receive, after-sample}
 use Rattle.sci.specs.Registers.{connect, settled}
-use Rattle.sci.specs.Sender.{drive, begin, try-start, next-cell}
+use Rattle.sci.specs.Sender.{drive, try-start, tailed, next-cell}
 
 pub take-bit-of : (z : Port) (x0 y0 : Port) (x1 y1 : Rx) → z ≡ take-bit x0 x1 → x0 ≡ y0 → x1 ≡ y1 → z ≡ take-bit y0 y1
 take-bit-of z x0 y0 x1 y1 e h0 h1 = e ∙ (λ j. take-bit (h0 j) (h1 j))
@@ -37,8 +38,11 @@ with-rx-of z x0 y0 x1 y1 e h0 h1 = e ∙ (λ j. with-rx (h0 j) (h1 j))
 pub with-holding-of : (z : Port) (x0 y0 : Port) (x1 y1 : Holding) → z ≡ with-holding x0 x1 → x0 ≡ y0 → x1 ≡ y1 → z ≡ with-holding y0 y1
 with-holding-of z x0 y0 x1 y1 e h0 h1 = e ∙ (λ j. with-holding (h0 j) (h1 j))
 
-pub carried-of : (z : Port) (x0 y0 : ℕ) (x1 y1 : Port) (x2 y2 : Port) → z ≡ carried x0 x1 x2 → x0 ≡ y0 → x1 ≡ y1 → x2 ≡ y2 → z ≡ carried y0 y1 y2
-carried-of z x0 y0 x1 y1 x2 y2 e h0 h1 h2 = e ∙ (λ j. carried (h0 j) (h1 j) (h2 j))
+pub uncounted-of : (z : Port) (x0 y0 : ℕ) (x1 y1 : Port) → z ≡ uncounted x0 x1 → x0 ≡ y0 → x1 ≡ y1 → z ≡ uncounted y0 y1
+uncounted-of z x0 y0 x1 y1 e h0 h1 = e ∙ (λ j. uncounted (h0 j) (h1 j))
+
+pub reset-of : (z : Port) (x0 y0 : Bool) (x1 y1 : Bool) (x2 y2 : Port) → z ≡ reset x0 x1 x2 → x0 ≡ y0 → x1 ≡ y1 → x2 ≡ y2 → z ≡ reset y0 y1 y2
+reset-of z x0 y0 x1 y1 x2 y2 e h0 h1 h2 = e ∙ (λ j. reset (h0 j) (h1 j) (h2 j))
 
 pub complete-receive-of : (z : Port) (x0 y0 : Port) (x1 y1 : Rx) → z ≡ complete-receive x0 x1 → x0 ≡ y0 → x1 ≡ y1 → z ≡ complete-receive y0 y1
 complete-receive-of z x0 y0 x1 y1 e h0 h1 = e ∙ (λ j. complete-receive (h0 j) (h1 j))
@@ -55,11 +59,11 @@ settled-of z x0 y0 e h0 = e ∙ (λ j. settled (h0 j))
 pub drive-of : (z : Port) (x0 y0 : Port) (x1 y1 : Bool) → z ≡ drive x0 x1 → x0 ≡ y0 → x1 ≡ y1 → z ≡ drive y0 y1
 drive-of z x0 y0 x1 y1 e h0 h1 = e ∙ (λ j. drive (h0 j) (h1 j))
 
-pub begin-of : (z : Port) (x0 y0 : Port) (x1 y1 : Character) → z ≡ begin x0 x1 → x0 ≡ y0 → x1 ≡ y1 → z ≡ begin y0 y1
-begin-of z x0 y0 x1 y1 e h0 h1 = e ∙ (λ j. begin (h0 j) (h1 j))
-
 pub try-start-of : (z : Port) (x0 y0 : Port) → z ≡ try-start x0 → x0 ≡ y0 → z ≡ try-start y0
 try-start-of z x0 y0 e h0 = e ∙ (λ j. try-start (h0 j))
+
+pub tailed-of : (z : Port) (x0 y0 : Port) (x1 y1 : Due) → z ≡ tailed x0 x1 → x0 ≡ y0 → x1 ≡ y1 → z ≡ tailed y0 y1
+tailed-of z x0 y0 x1 y1 e h0 h1 = e ∙ (λ j. tailed (h0 j) (h1 j))
 
 pub next-cell-of : (z : Port) (x0 y0 : Character) (x1 y1 : ℕ) (x2 y2 : Port) → z ≡ next-cell x0 x1 x2 → x0 ≡ y0 → x1 ≡ y1 → x2 ≡ y2 → z ≡ next-cell y0 y1 y2
 next-cell-of z x0 y0 x1 y1 x2 y2 e h0 h1 h2 = e ∙ (λ j. next-cell (h0 j) (h1 j) (h2 j))

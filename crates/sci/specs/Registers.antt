@@ -18,7 +18,7 @@ use Rattle.sci.specs.Fields.{with-spcr, with-smr, with-brr, with-scr, wi
 use Rattle.sci.specs.Baud.{format-of, external, boundary}
 use Rattle.sci.specs.Receiver.{arm-receive}
 use Rattle.words.specs.Sender.{holds}
-use Rattle.sci.specs.Sender.{preload, tailed, try-start}
+use Rattle.sci.specs.Sender.{tailed, try-start}
 use Rattle.sci.specs.Clocked.{refresh-sync-clock}
 
 -- the nine addresses: SPCR; SMR, BRR, SCR, TDR, SSR, RDR; SEMR, IRCR
@@ -104,7 +104,7 @@ connect was p = cond (not was && external p) (with-sync-next (with-high p (p .«
 
 -- a tail with no next word takes what the holding place has
 abbrev pub fill-tail : Loaded → Due → Port → Port
-fill-tail Nothing next p = cond (holds (p .holding)) (tailed (preload p) next) p
+fill-tail Nothing next p = cond (holds (p .holding)) (tailed p next) p
 fill-tail (Next ch) next p = p
 
 abbrev pub load-tail-on : Tx → Port → Port

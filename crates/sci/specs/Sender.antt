@@ -16,7 +16,6 @@ use Rattle.words.specs.declared.Loaded.{Loaded}
 use Rattle.words.specs.declared.Loaded.the-variants.{Nothing, Next}
 use Rattle.words.specs.declared.Tx.{Tx}
 use Rattle.words.specs.declared.Tx.the-variants.{Off, Blocked, Mark, Start, Data, Tail}
-use Rattle.sci.specs.declared.Preloaded.{Preloaded}
 use Rattle.sci.specs.Fields.{with-tx, with-ssr, with-holding, with-uart, with-bit-start, with-transmitted}
 use Rattle.sci.specs.Baud.{format-of, boundary}
 use Rattle.words.specs.Due.{due-now}
@@ -40,9 +39,6 @@ loaded p = loaded-on (p .holding) p
 
 unfoldable pub preloaded : Port → Port
 preloaded p = preloaded-on (p .holding) p
-
-abbrev pub preload : Port → Preloaded
-preload p = record { loaded = loaded p; port = preloaded p }
 
 -- a cell begins: its level on the line, the present half its start
 abbrev pub drive : Port → Bool → Port
@@ -88,14 +84,14 @@ finish-tail (Next ch) p =
     cond (ch .format .synchronous && not (error-free p)) (with-tx (one-sent p) (Blocked ch)) (begin (one-sent p) ch)
 
 -- a word's last cells, with the next word taken from the holding place
-abbrev pub tailed : Preloaded → Due → Port
-tailed l next = with-tx (l .port) (Tail (l .loaded) next)
+abbrev pub tailed : Port → Due → Port
+tailed p next = with-tx (preloaded p) (Tail (loaded p) next)
 
 -- a cell of a start-stop word begins; with the first stop cell the tail
 unfoldable pub next-cell : Character → ℕ → Port → Port
 next-cell ch cell p =
     cond (eqb cell (stop (ch .format)))
-    (tailed (preload (drive p (level ch cell))) (At (p .half + ch .format .stops * ch .format .«half_bit»)))
+    (tailed (drive p (level ch cell)) (At (p .half + ch .format .stops * ch .format .«half_bit»)))
     (with-tx (drive p (level ch cell)) (Data ch cell (At (p .half + ch .format .«half_bit»))))
 
 -- what it does then

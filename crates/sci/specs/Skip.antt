@@ -64,12 +64,6 @@ idle-for n p =
 
 -- ---- an edge of the basic clock, counted: a half of the internal one, or with the flag `pin` an edge of the clock pin to a level
 -- the edge of clocked form's clock that comes with it, if one does: the pin's, or the port's own at its due half
-abbrev pub edge-now : Bool → Port → Bool
-edge-now pin p = cond pin true (due-now (p .«sync_next») (p .half))
-
-abbrev pub edge-level : Bool → Bool → Port → Bool
-edge-level pin level p = cond pin level (not (p .sck))
-
 abbrev pub toggled : Bool → Port → Port
 toggled pin p = cond pin p (with-clock p Never (not (p .sck)))
 

@@ -1,24 +1,23 @@
-// SCI3 of the H8/38602R as a value: registers, sender, receiver and clock of sci.rs (document 01).
+// SCI3 of the H8/38602R as a value: registers, sender, receiver and clock of sci.rs (document 01). Its `pins` and `interrupt` are in the crate signals.
 ghost use mathlib.Core.Path.{_≡_};
-ghost use mathlib.Core.Bool.{true, false, cond, _&&_};
-ghost use Prim.Native.Nat.{suc, _≤_, _<_, _+_, _%_, _^_};
+ghost use mathlib.Core.Bool.{true, false, cond};
+ghost use Prim.Native.Nat.{_≤_, _<_, _+_};
 ghost use lib.Bits.{bitOr};
-ghost use lib.Dec.{leb};
 ghost use Rattle.words.specs.declared.Receiver.the-variants.{Idle, Busy};
 ghost use Rattle.words.specs.declared.Tx.the-variants.{Off};
-ghost use Rattle.sci.specs.Fields.{with-ssr, with-rdr, with-received, with-holding, with-tx, with-rx, with-sync-next, with-input-clock};
+ghost use Rattle.sci.specs.Fields.{with-holding, with-tx, with-rx, with-sync-next, with-input-clock};
 ghost use Rattle.sci.specs.Baud.{format-of, external, running, edge-counts, next-fall, boundary};
 ghost use Rattle.words.specs.Due.{due-now};
 ghost use Rattle.words.specs.Receiver.{armed, started, bit-at, stepped, sample, bit-taken};
-ghost use Rattle.sci.specs.Receiver.{input-level, arms, arm-receive, complete-receive, after-sample, advance-rx};
+ghost use Rattle.sci.specs.Receiver.{input-level, complete-receive, after-sample, advance-rx};
 ghost use Rattle.words.specs.Sender.{level};
-ghost use Rattle.sci.specs.Sender.{character, preload, drive, begin, start-at, start-loaded, try-start-on, try-start, one-sent, finish-tail, tailed, next-cell, send-step-on, advance-tx};
-ghost use Rattle.sci.specs.Clocked.{sync-needed, refresh-sync-clock, take-bit, receive-bit-on, receive-bit, tail-ends, bit-out, shift-out, sync-edge};
-ghost use Rattle.sci.specs.Half.{process-basic, halves, inside, uncounted};
-ghost use Rattle.sci.specs.Skip.{arms-on, starts-on, rests, edge-now, edge-level, toggled, edge-of, edge-work, clock-fresh, deadline, counted-by, Clocked, edges, idle-for};
-ghost use Rattle.sci.specs.Registers.{handles, peek, read, sender-off, sender-on, scr-tx, write-scr, write-tdr, status-write, stored, connect, load-tail, settled, write};
-ghost use Rattle.sci.specs.Power.{fresh, carried, reset-registers, reset, set-power};
-ghost use Rattle.sci.specs.Pins.{receive-input, external-edge, pins-change, transmit-level, clock-level, clock-drive, pins, interrupt, level-number};
+ghost use Rattle.sci.specs.Sender.{character, loaded, preloaded, drive, begin, start-at, start-loaded, try-start-on, try-start, finish-tail, tailed, next-cell, send-step-on, advance-tx};
+ghost use Rattle.sci.specs.Clocked.{sync-needed, refresh-sync-clock, take-bit, receive-bit, tail-ends, bit-out, shift-out, sync-edge};
+ghost use Rattle.sci.specs.Half.{process-basic, halves, uncounted};
+ghost use Rattle.sci.specs.Skip.{arms-on, starts-on, rests, toggled, edge-of, edge-work, clock-fresh, deadline, counted-by, Clocked, edges, idle-for};
+ghost use Rattle.sci.specs.Registers.{handles, peek, read, sender-off, scr-tx, write-scr, write-tdr, status-write, stored, connect, load-tail, settled, write};
+ghost use Rattle.sci.specs.Power.{fresh, reset-registers, reset, set-power};
+ghost use Rattle.sci.specs.Pins.{receive-input, external-edge};
 ghost use Rattle.sci.specs.Valid.{limit, registers-valid, valid};
 ghost use Rattle.sci.specs.Calls.{done, refuse, direct, reads, writes, lets-pass, sets-line, sets-pins, sets-power, passes-inside, number, answer};
 ghost use Rattle.words.specs.Ready.{Bounded, Placed, Shiftable, PlacedIn, LoadedBounded, Sendable, in-data, at-parity};
@@ -67,12 +66,6 @@ pub struct Port {
     pub holding: Holding,
     pub transmitted: u64,
     pub received: u64,
-}
-
-// The word that the holding place gives, and the port without it.
-pub struct Preloaded {
-    pub loaded: Loaded,
-    pub port: Port,
 }
 
 // signals.rs: how a pin is driven.
@@ -247,33 +240,6 @@ fn sampled(rx: Rx, now: Format, high: bool, half: u32) -> Sampled
         return Sampled::Onward(stepped(rx, half, rx.value, rx.parity, error));
     }
     Sampled::Whole(rx.stopped(high))
-}
-
-impl Preloaded {
-    // A word's last cells, with the next one loaded.
-    fn tailed(self, next: Due) -> Port
-        ensures { λ r. ⌜ r ≡ tailed self next ⌝ }
-    {
-        let loaded = self.loaded;
-        let port = self.port;
-        port.with_tx(Tx::Tail { loaded, next })
-    }
-
-    // A loaded word begins: a clocked one at once, a start-stop one where a cell can.
-    fn started(self) -> Port
-        requires { ⌜ (self .port .half ≤ limit) × LoadedBounded (self .loaded) ⌝ }
-        ensures { λ r. ⌜ r ≡ start-loaded (self .loaded) (self .port) ⌝ }
-    {
-        let port = self.port;
-        let loaded = self.loaded;
-        let Loaded::Next(character) = loaded else {
-            return port;
-        };
-        if character.format.synchronous {
-            return port.begin(character);
-        }
-        port.start_at_boundary(character)
-    }
 }
 
 impl Port {
@@ -514,14 +480,6 @@ impl Port {
         self.half + 2
     }
 
-    // Time passes inside the half.
-    fn inside(mut self) -> Port
-        ensures { λ r. ⌜ r ≡ inside self ⌝ }
-    {
-        self.edge = false;
-        self
-    }
-
     // ---- receive line
     // RXD now shows this level.
     fn receive_input(mut self, level: bool) -> Port
@@ -537,32 +495,17 @@ impl Port {
         self
     }
 
-    fn transmit_level(self) -> Transmit
-        ensures { λ r. ⌜ r ≡ transmit-level self ⌝ }
-    {
-        if self.spcr & 0x10 != 0 {
-            return Transmit::Level(self.uart ^ (self.spcr & 2 != 0));
-        }
-        Transmit::Released
-    }
-
     // ---- power
-    // What a reset keeps of the port before.
-    fn carried(mut self, spcr: u8, old: Port) -> Port
-        ensures { λ r. ⌜ r ≡ carried spcr old self ⌝ }
-    {
-        self.spcr = spcr;
-        self.input = old.input;
-        self.input_clock = old.input_clock;
-        self.transmitted = old.transmitted;
-        self.received = old.received;
-        self
-    }
-
     fn reset_registers(self, spcr: u8) -> Port
         ensures { λ r. ⌜ r ≡ reset-registers spcr self ⌝ }
     {
-        Port::fresh().carried(spcr, self)
+        let mut port = Port::fresh();
+        port.spcr = spcr;
+        port.input = self.input;
+        port.input_clock = self.input_clock;
+        port.transmitted = self.transmitted;
+        port.received = self.received;
+        port
     }
 
     // The module going off is the module's reset, also where reset mode goes on.
@@ -588,56 +531,6 @@ impl Port {
         port.sub = sub;
         port.reset_mode = reset_mode;
         port.refresh_sync_clock()
-    }
-
-    // ---- pins and interrupt
-    // In start-stop form high in the second half of each cell.
-    fn clock_level(self) -> bool
-        ensures { λ r. ⌜ r ≡ clock-level self ⌝ }
-    {
-        if self.smr & 0x80 != 0 {
-            return self.sck;
-        }
-        let span = self.format().half_bit;
-        self.half % span >= span / 2
-    }
-
-    fn clock_drive(self) -> Clock
-        ensures { λ r. ⌜ r ≡ clock-drive self ⌝ }
-    {
-        if self.external() {
-            return Clock::Driven(Drive::Floating);
-        }
-        if (self.scr & 1 != 0) | (self.smr & 0x80 != 0) {
-            if self.clock_level() {
-                return Clock::Driven(Drive::High);
-            }
-            return Clock::Driven(Drive::Low);
-        }
-        Clock::Free
-    }
-
-    // The pins that the port drives or uses. The clock drive just after clocked output ends is the part that document 01 leaves free.
-    pub fn pins(self) -> Pins
-        ensures { λ r. ⌜ r ≡ pins self ⌝ }
-    {
-        let clock = self.clock_drive();
-        let transmit = self.transmit_level();
-        Pins {
-            clock,
-            transmit,
-            receive: self.scr & 0x10 != 0,
-        }
-    }
-
-    // The interrupt request.
-    pub fn interrupt(self) -> bool
-        ensures { λ r. ⌜ r ≡ interrupt self ⌝ }
-    {
-        self.module
-            & (((self.ssr & 0x80 != 0) & (self.scr & 0x80 != 0))
-                | (((self.ssr & 0x78 != 0) & (self.scr & 0x40 != 0))
-                    | ((self.ssr & 4 != 0) & (self.scr & 4 != 0))))
     }
 
     // ---- registers
@@ -681,17 +574,7 @@ impl Port {
         self.with_tx(Tx::Off).with_holding(Holding::Empty)
     }
 
-    // A whole character of mark, from the next boundary on.
-    fn sender_on(self) -> Port
-        requires { ⌜ self .half ≤ limit ⌝ }
-        ensures { λ r. ⌜ r ≡ sender-on self ⌝ }
-    {
-        let format = self.format();
-        let next = self.boundary(format.half_bit) + format.cells() * format.half_bit;
-        self.with_tx(Tx::Mark { next })
-    }
-
-    // TE newly set begins with mark in start-stop form.
+    // TE newly set begins, in start-stop form, with a whole character of mark from the next boundary on.
     fn scr_tx(self, was: bool, v: u8) -> Port
         requires { ⌜ self .half ≤ limit ⌝ }
         ensures { λ r. ⌜ r ≡ scr-tx was v self ⌝ }
@@ -699,7 +582,8 @@ impl Port {
         if v & 0x20 != 0 {
             let format = self.format();
             if !was & !format.synchronous {
-                return self.sender_on();
+                let next = self.boundary(format.half_bit) + format.cells() * format.half_bit;
+                return self.with_tx(Tx::Mark { next });
             }
             return self;
         }
@@ -808,8 +692,7 @@ impl Port {
         };
         let holding = self.holding;
         if holding.full() {
-            let port = self;
-            return port.preload().tailed(next);
+            return self.tailed(next);
         }
         self
     }
@@ -838,7 +721,7 @@ impl Port {
     }
 
     // ---- sender
-    // A branch that hands the port to a large step hands it a copy of its own (`last`, `port`): else the compiler keeps the port of every branch in memory.
+    // A branch that hands the port to a large step hands it a copy of its own (`last`): else the compiler keeps the port of every branch in memory.
     fn character(self, value: u8) -> Character
         ensures { λ r. ⌜ r ≡ character self value ⌝ }
         ensures bounded { λ r. ⌜ Bounded (r .format) ⌝ }
@@ -850,26 +733,38 @@ impl Port {
         }
     }
 
-    fn preload(self) -> Preloaded
-        ensures { λ r. ⌜ r ≡ preload self ⌝ }
-        ensures kept { λ r. ⌜ (r .port .half ≡ self .half) × LoadedBounded (r .loaded) ⌝ }
+    // `preload` in two: the word that the holding place gives, and the port without it.
+    fn loaded(self) -> Loaded
+        ensures { λ r. ⌜ r ≡ loaded self ⌝ }
+        ensures bounded { λ r. ⌜ LoadedBounded r ⌝ }
     {
-        let mut port = self;
         let holding = self.holding;
         let Holding::Byte(value) = holding else {
-            port.ssr = self.ssr | 4;
-            return Preloaded {
-                loaded: Loaded::Nothing,
-                port,
-            };
+            return Loaded::Nothing;
         };
-        port.ssr = (self.ssr | 0x80) & 0xfb;
         let character = self.character(value);
-        let port = port.with_holding(Holding::Empty);
-        Preloaded {
-            loaded: Loaded::Next(character),
-            port,
+        Loaded::Next(character)
+    }
+
+    fn preloaded(mut self) -> Port
+        ensures { λ r. ⌜ r ≡ preloaded self ⌝ }
+        ensures kept { λ r. ⌜ r .half ≡ self .half ⌝ }
+    {
+        let holding = self.holding;
+        if holding.full() {
+            self.ssr = (self.ssr | 0x80) & 0xfb;
+            return self.with_holding(Holding::Empty);
         }
+        self.ssr = self.ssr | 4;
+        self
+    }
+
+    // A word's last cells, with the next one loaded.
+    fn tailed(self, next: Due) -> Port
+        ensures { λ r. ⌜ r ≡ tailed self next ⌝ }
+    {
+        let loaded = self.loaded();
+        self.preloaded().with_tx(Tx::Tail { loaded, next })
     }
 
     fn drive(mut self, high: bool) -> Port
@@ -914,6 +809,22 @@ impl Port {
         self.with_tx(Tx::Start { character, next })
     }
 
+    // A loaded word begins: a clocked one at once, a start-stop one where a cell can.
+    fn start_loaded(self) -> Port
+        requires { ⌜ self .half ≤ limit ⌝ }
+        ensures { λ r. ⌜ r ≡ start-loaded (loaded self) (preloaded self) ⌝ }
+    {
+        let loaded = self.loaded();
+        let port = self.preloaded();
+        let Loaded::Next(character) = loaded else {
+            return port;
+        };
+        if character.format.synchronous {
+            return port.begin(character);
+        }
+        port.start_at_boundary(character)
+    }
+
     // A held byte is taken by an absent sender; in clocked form not while an error flag stands.
     fn load_held(self) -> Port
         requires { ⌜ self .half ≤ limit ⌝ }
@@ -923,7 +834,7 @@ impl Port {
         let holding = self.holding;
         let held = holding.full();
         if (self.scr & 0x20 != 0) & (held & (!format.synchronous | !(self.ssr & 0x38 != 0))) {
-            return self.preload().started();
+            return self.start_loaded();
         }
         self
     }
@@ -991,21 +902,13 @@ impl Port {
         }
     }
 
-    // A word is finished.
-    fn one_sent(mut self) -> Port
-        ensures { λ r. ⌜ r ≡ one-sent self ⌝ }
-        ensures kept { λ r. ⌜ r .half ≡ self .half ⌝ }
-    {
-        self.transmitted = std::num::wrapping_add_u64(self.transmitted, 1);
-        self.with_tx(Tx::Off)
-    }
-
-    // The tail ends. A clocked word does not begin while an error flag stands.
-    fn finish_tail(self, loaded: Loaded) -> Port
+    // The tail ends: a word is finished. A clocked word does not begin while an error flag stands.
+    fn finish_tail(mut self, loaded: Loaded) -> Port
         requires { ⌜ (self .half ≤ limit) × LoadedBounded loaded ⌝ }
         ensures { λ r. ⌜ r ≡ finish-tail loaded self ⌝ }
     {
-        let port = self.one_sent();
+        self.transmitted = std::num::wrapping_add_u64(self.transmitted, 1);
+        let port = self.with_tx(Tx::Off);
         let Loaded::Next(character) = loaded else {
             return port.try_start();
         };
@@ -1025,7 +928,7 @@ impl Port {
         if cell as u32 == format.stop() {
             let next = Due::At(self.half + format.stops as u32 * format.half_bit);
             let last = port;
-            return last.preload().tailed(next);
+            return last.tailed(next);
         }
         let next = Due::At(self.half + format.half_bit);
         port.with_tx(Tx::Data {
@@ -1050,10 +953,7 @@ impl Port {
                 cell,
                 next: _,
             } => self.next_cell(character, cell + 1),
-            Tx::Tail { loaded, next: _ } => {
-                let port = self;
-                port.finish_tail(loaded)
-            }
+            Tx::Tail { loaded, next: _ } => { self.finish_tail(loaded) }
         }
     }
 
@@ -1081,14 +981,6 @@ impl Port {
         self.input ^ (self.spcr & 1 != 0)
     }
 
-    fn arms(self) -> bool
-        ensures { λ r. ⌜ r ≡ arms self ⌝ }
-    {
-        let format = self.format();
-        let level = self.input_level();
-        (self.scr & 0x10 != 0) & (!(self.ssr & 0x38 != 0) & (!format.synchronous & !level))
-    }
-
     // Whether a word begins: none is in the receiver, and the line asks for one.
     fn arms_now(self) -> bool
         ensures { λ r. ⌜ r ≡ arms-on (self .rx) self ⌝ }
@@ -1097,7 +989,9 @@ impl Port {
         let Receiver::Idle = receiver else {
             return false;
         };
-        self.arms()
+        let format = self.format();
+        let level = self.input_level();
+        (self.scr & 0x10 != 0) & (!(self.ssr & 0x38 != 0) & (!format.synchronous & !level))
     }
 
     fn armed(self) -> Port
@@ -1108,16 +1002,6 @@ impl Port {
         self.with_rx(Receiver::Busy(rx))
     }
 
-    // RDR takes a word without error.
-    fn received_word(mut self, value: u8) -> Port
-        ensures { λ r. ⌜ r ≡ with-received (with-ssr (with-rdr self value) (bitOr (self .ssr) 0x40)) (suc (self .received) % 2 ^ 64) ⌝ }
-    {
-        self.rdr = value;
-        self.ssr = self.ssr | 0x40;
-        self.received = std::num::wrapping_add_u64(self.received, 1);
-        self
-    }
-
     // A whole word, the receiver being empty again.
     fn complete_receive(mut self, rx: Rx) -> Port
         ensures { λ r. ⌜ r ≡ complete-receive self rx ⌝ }
@@ -1126,10 +1010,12 @@ impl Port {
             self.ssr = self.ssr | (rx.error | 0x20);
             return self;
         }
-        if rx.error == 0 {
-            return self.received_word(rx.value);
-        }
         self.rdr = rx.value;
+        if rx.error == 0 {
+            self.ssr = self.ssr | 0x40;
+            self.received = std::num::wrapping_add_u64(self.received, 1);
+            return self;
+        }
         self.ssr = self.ssr | rx.error;
         self
     }
@@ -1213,23 +1099,16 @@ impl Port {
         if (self.scr & 0x10 != 0) & !(self.ssr & 0x38 != 0) {
             let receiver = self.rx;
             let Receiver::Busy(rx) = receiver else {
-                return self.first_bit();
+                let format = self.format();
+                if format.synchronous {
+                    return self.take_bit(Rx::clocked(format));
+                }
+                return self;
             };
             if rx.format.synchronous {
                 return self.take_bit(rx);
             }
             return self;
-        }
-        self
-    }
-
-    // With no word in the receiver, one begins if the present format is clocked.
-    fn first_bit(self) -> Port
-        ensures { λ r. ⌜ r ≡ receive-bit-on Idle self ⌝ }
-    {
-        let format = self.format();
-        if format.synchronous {
-            return self.take_bit(Rx::clocked(format));
         }
         self
     }
@@ -1246,8 +1125,7 @@ impl Port {
         let Due::Never = next else {
             return self;
         };
-        let port = self;
-        port.finish_tail(loaded)
+        self.finish_tail(loaded)
     }
 
     // A bit of a clocked word.
@@ -1258,7 +1136,7 @@ impl Port {
         let port = self.drive(level(character, cell));
         if cell == 7 {
             let last = port;
-            return last.preload().tailed(Due::Never);
+            return last.tailed(Due::Never);
         }
         port.with_tx(Tx::Data {
             character,
@@ -1306,12 +1184,6 @@ impl Port {
         running & (external & (self.high != high))
     }
 
-    fn pins_change(self, clock: bool, line: bool) -> bool
-        ensures { λ r. ⌜ r ≡ pins-change clock line self ⌝ }
-    {
-        (line != self.input) | (clock != self.input_clock)
-    }
-
     // The line, then an edge of the clock pin where it counts.
     fn with_pins(self, clock: bool, line: bool) -> Port
         requires { ⌜ Ready (self .half) self × (edge-counts clock self ≡ true → self .half < limit) ⌝ }
@@ -1353,27 +1225,6 @@ impl Port {
         port
     }
 
-    // Whether the clock of clocked form has an edge: the pin's, or the port's own at its due half.
-    fn edge_now(self, pin: bool) -> bool
-        ensures { λ r. ⌜ r ≡ edge-now pin self ⌝ }
-    {
-        if pin {
-            return true;
-        }
-        let next = self.sync_next;
-        due_now(next, self.half)
-    }
-
-    // The level after it.
-    fn edge_level(self, pin: bool, level: bool) -> bool
-        ensures { λ r. ⌜ r ≡ edge-level pin level self ⌝ }
-    {
-        if pin {
-            return level;
-        }
-        !self.sck
-    }
-
     fn toggled(mut self, pin: bool) -> Port
         ensures { λ r. ⌜ r ≡ toggled pin self ⌝ }
     {
@@ -1384,12 +1235,15 @@ impl Port {
         self.with_sync_next(Due::Never)
     }
 
+    // An edge of clocked form's clock: the pin's, or the port's own at its due half.
     fn clocked_edge(self, pin: bool, level: bool) -> Port
         requires { ⌜ Ready (self .half) self ⌝ }
         ensures { λ r. ⌜ r ≡ edge-of pin level self ⌝ }
     {
-        if self.edge_now(pin) {
-            let high = self.edge_level(pin, level);
+        let next = self.sync_next;
+        let due = due_now(next, self.half);
+        if pin | due {
+            let high = (pin & level) | !(pin | self.sck);
             return self.toggled(pin).sync_edge(high);
         }
         self
@@ -1464,7 +1318,7 @@ impl Port {
         port
     }
 
-    // Whether nothing happens in the next n halves.
+    // Whether nothing happens in the next n halves. Not by `deadline`: with one caller the compiler keeps that in the loop.
     fn idle_for(self, n: u32) -> bool
         requires { ⌜ n ≤ limit ⌝ }
         ensures { λ r. ⌜ r ≡ idle-for n self ⌝ }
@@ -1493,14 +1347,12 @@ impl Port {
         self.edges(n, false, false)
     }
 
-    // n halves' time on a port whose internal clock does not count.
-    fn uncounted(self, n: u32) -> Port
+    // n halves' time on a port whose internal clock does not count; with n not 0, time inside the half.
+    fn uncounted(mut self, n: u32) -> Port
         ensures { λ r. ⌜ r ≡ uncounted n self ⌝ }
     {
-        if n == 0 {
-            return self;
-        }
-        self.inside()
+        self.edge = self.edge & (n == 0);
+        self
     }
 }
 
@@ -1555,18 +1407,6 @@ impl Refusal {
             Refusal::State => 8,
             Refusal::Full => 9,
         }
-    }
-}
-
-impl Transmit {
-    // Document 01's transmit level: 0, 1, or 2 when not driven.
-    pub fn number(self) -> u8
-        ensures { λ r. ⌜ r ≡ level-number self ⌝ }
-    {
-        let Transmit::Level(high) = self else {
-            return 2;
-        };
-        if high { 1 } else { 0 }
     }
 }
 
@@ -1659,25 +1499,20 @@ impl Port {
         self.refuse(Refusal::State)
     }
 
-    // The clock pin's edge would take the half count past its limit.
-    fn past_limit(self, clock: bool) -> bool
-        ensures { λ r. ⌜ r ≡ (edge-counts clock self && leb limit (self .half)) ⌝ }
-    {
-        let counts = self.edge_counts(clock);
-        counts & (self.half >= LIMIT)
-    }
-
     // Kind 5: sets clock pin and receive line.
     pub fn input_pins(self, clock: u32, line: u32) -> Called
         ensures { λ r. ⌜ answer r ≡ direct (sets-pins clock line) self ⌝ }
     {
         if self.valid() {
             if (clock <= 1) & (line <= 1) {
-                if self.pins_change(clock != 0, line != 0) {
-                    if self.past_limit(clock != 0) {
+                let clock = clock != 0;
+                let line = line != 0;
+                if (line != self.input) | (clock != self.input_clock) {
+                    let counts = self.edge_counts(clock);
+                    if counts & (self.half >= LIMIT) {
                         return self.refuse(Refusal::Count);
                     }
-                    return self.with_pins(clock != 0, line != 0).done(0);
+                    return self.with_pins(clock, line).done(0);
                 }
                 return self.done(0);
             }
@@ -1705,7 +1540,7 @@ impl Port {
         ensures { λ r. ⌜ answer r ≡ direct passes-inside self ⌝ }
     {
         if self.valid() {
-            return self.inside().done(0);
+            return self.uncounted(1).done(0);
         }
         self.refuse(Refusal::State)
     }

@@ -22,5 +22,5 @@ write-record-spec =
     (λ c. search needs)
     (λ c. let a = c .before .before .before .before .before .before .args in
     record-written (a .log .now) (a .command) (a .value) (a .port) (c .before .before .before .pins .result) (c .before .before .before .before .kind .result)
-    (c .before .before .number .result) (c .one-if .result) (c .before .interrupt .result) (c .before .before .before .before .before .before .pre)
-    (c .before .before .before .before .kind .ensures) (c .before .before .before .pins .ensures) (c .before .before .number .ensures) (c .before .interrupt .ensures) (c .one-if .ensures)))
+    (c .before .before .level-number .result) (c .one-if .result) (c .before .interrupt .result) (c .before .before .before .before .before .before .pre)
+    (c .before .before .before .before .kind .ensures) (c .before .before .before .pins .ensures) (c .before .before .level-number .ensures) (c .before .interrupt .ensures) (c .one-if .ensures)))

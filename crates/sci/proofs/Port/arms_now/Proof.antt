@@ -1,4 +1,5 @@
 use Rattle.sci.proofs.Clauses.{arms-on-clauses}
+use Rattle.sci.proofs.Steps.{arms-of}
 use borrow.Author.Needs.{needs}
 use Rattle.sci.proofs.Port.arms_now.Statement.{statement}
 use Rattle.sci.proofs.Port.arms_now.Tie as tie
@@ -11,4 +12,5 @@ arms-now-spec =
     (λ c. search needs)
     (λ c. search (arms-on-clauses, needs) depth 10)
     (λ c κs. search needs)
-    (λ c. search (arms-on-clauses, needs) depth 10))
+    (λ c κs. search needs)
+    (λ c. search (arms-on-clauses, arms-of, needs) depth 10))

@@ -1,6 +1,6 @@
 use Rattle.frame.proofs.Choose.{choose}
-use Rattle.sci.proofs.Steps.{counts, loads}
-use Rattle.sci.proofs.Under.{drive-of, with-tx-of}
+use Rattle.sci.proofs.Steps.{counts}
+use Rattle.sci.proofs.Under.{drive-of, tailed-of, with-tx-of}
 use Rattle.sci.specs.Clocked.{bit-out}
 use borrow.Author.Needs.{needs}
 use Rattle.sci.proofs.Port.bit_out.Statement.{statement}
@@ -14,8 +14,7 @@ bit-out-spec =
     (λ c κs. search needs)
     (λ c κs. search needs)
     (λ c κs. search needs)
-    (λ c κs. search needs)
-    (λ c. search (loads, drive-of, choose) depth 10)
+    (λ c. search (tailed-of, drive-of, choose) depth 10)
     (λ c. search needs)
     (λ c κs. search needs)
     (λ c. search (with-tx-of, drive-of, counts, choose) depth 10))

@@ -9,7 +9,6 @@ clocked-edge-spec =
     (tie.spec
     (λ c κs. search needs)
     (λ c κs. search needs)
-    (λ c κs. search needs)
     (λ c κs. search (toggled-ready, needs) depth 10)
     (λ c. search (edge-t, needs) depth 10)
     (λ c. search (edge-f, needs) depth 10))

@@ -1,4 +1,6 @@
 use Rattle.frame.proofs.Choose.{choose}
+use Rattle.sci.proofs.Same.{same-port}
+use Rattle.sci.proofs.Steps.{wraps}
 use Rattle.sci.specs.Receiver.{complete-receive}
 use borrow.Author.Needs.{needs}
 use Rattle.sci.proofs.Port.complete_receive.Statement.{statement}
@@ -9,7 +11,7 @@ unfolding complete-receive
 complete-receive-spec =
     tie.close
     (tie.spec
-    (λ c. search (choose) depth 10)
+    (λ c. search choose depth 10)
     (λ c κs. search needs)
-    (λ c. search (choose) depth 10)
-    (λ c. search (choose) depth 10))
+    (λ c. search (same-port, wraps, choose) depth 10)
+    (λ c. search choose depth 10))

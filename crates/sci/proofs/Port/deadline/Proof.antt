@@ -10,13 +10,13 @@ unfolding deadline
 deadline-spec =
     tie.close
     (tie.spec
-    (λ c κs. search needs)
+    (λ c κs. tt)
     (λ c. search (cond-t, cond-f, flag-t, flag-f, needs) depth 10)
-    (λ c κs. search needs)
-    (λ c κs. search needs)
-    (λ c κs. search needs)
-    (λ c κs. search needs)
-    (λ c κs. search needs)
-    (λ c κs. search needs)
+    (λ c κs. tt)
+    (λ c κs. tt)
+    (λ c κs. tt)
+    (λ c κs. tt)
+    (λ c κs. tt)
+    (λ c κs. tt)
     (λ c. search (within-of, cond-t, cond-f, flag-t, flag-f, needs) depth 10)
     (λ c. search (cond-t, cond-f, flag-t, flag-f, needs) depth 10))

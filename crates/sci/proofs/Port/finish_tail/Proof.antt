@@ -1,8 +1,4 @@
-use Rattle.frame.proofs.Choose.{choose}
-use Rattle.words.proofs.Steps.{bools}
-use Rattle.sci.proofs.Clauses.{finish-tail-clauses}
-use Rattle.sci.proofs.Steps.{flagged, held, sent-sendable}
-use Rattle.sci.proofs.Under.{begin-of, try-start-of, with-tx-of}
+use Rattle.sci.proofs.Steps.{finish-begins, finish-blocked, finish-none, next-bounded, off-after}
 use borrow.Author.Needs.{needs}
 use Rattle.sci.proofs.Port.finish_tail.Statement.{statement}
 use Rattle.sci.proofs.Port.finish_tail.Tie as tie
@@ -12,11 +8,12 @@ finish-tail-spec =
     tie.close
     (tie.spec
     (λ c κs. search needs)
-    (λ c. search needs)
-    (λ c. search needs)
-    (λ c κs. search (sent-sendable, needs) depth 10)
-    (λ c. search (finish-tail-clauses, try-start-of, choose) depth 10)
     (λ c κs. search needs)
-    (λ c. search (finish-tail-clauses, with-tx-of, flagged, bools, choose) depth 10)
-    (λ c κs. search (held, needs) depth 10)
-    (λ c. search (finish-tail-clauses, begin-of, flagged, bools, choose) depth 10))
+    (λ c. search needs)
+    (λ c. search needs)
+    (λ c κs. search (off-after, needs) depth 10)
+    (λ c. search (finish-none, needs) depth 10)
+    (λ c κs. search needs)
+    (λ c. search (finish-blocked, needs) depth 10)
+    (λ c κs. search (next-bounded, needs) depth 10)
+    (λ c. search (finish-begins, needs) depth 10))

@@ -1,5 +1,5 @@
 use Rattle.frame.proofs.Choose.{cond-t, cond-f, flag-t, flag-f}
-use Rattle.sci.proofs.CallLaws.{ands, done-eq, edge-room, pins-set}
+use Rattle.sci.proofs.CallLaws.{edge-room, pins-past, pins-same, pins-set, refused-by-8}
 use Rattle.sci.proofs.Checked.{flag-ready}
 use Rattle.sci.specs.Calls.{called, direct}
 use Rattle.sci.specs.Pins.{input-pins}
@@ -15,14 +15,13 @@ input-pins-spec =
     (λ c κs. search needs)
     (λ c κs. search needs)
     (λ c κs. search needs)
-    (λ c κs. search needs)
-    (λ c. search (ands, cond-t, flag-t, needs) depth 10)
+    (λ c. search (pins-past, cond-t, flag-t, needs) depth 10)
     (λ c κs. search (flag-ready, edge-room, needs) depth 10)
     (λ c κs. search needs)
     (λ c. search (pins-set, cond-t, flag-t, needs) depth 10)
     (λ c κs. search needs)
-    (λ c. search (done-eq, ands, cond-t, cond-f, flag-t, flag-f, needs) depth 10)
+    (λ c. search (pins-same, cond-t, flag-t, needs) depth 10)
     (λ c κs. search needs)
     (λ c. search (cond-t, cond-f, flag-t, flag-f, needs) depth 10)
     (λ c κs. search needs)
-    (λ c. search (cond-t, cond-f, flag-t, flag-f, needs) depth 10))
+    (λ c. search (refused-by-8, needs) depth 10))

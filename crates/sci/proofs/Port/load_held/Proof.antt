@@ -1,6 +1,5 @@
 use Rattle.frame.proofs.Choose.{choose}
 use Rattle.words.proofs.Steps.{bools}
-use Rattle.sci.proofs.Steps.{started-load}
 use borrow.Author.Needs.{needs}
 use Rattle.sci.proofs.Port.load_held.Statement.{statement}
 use Rattle.sci.proofs.Port.load_held.Tie as tie
@@ -12,6 +11,5 @@ load-held-spec =
     (λ c κs. search needs)
     (λ c κs. search needs)
     (λ c κs. search needs)
-    (λ c κs. search needs)
-    (λ c. search (started-load, bools, choose) depth 10)
+    (λ c. search (bools, choose) depth 10)
     (λ c. search (bools, choose) depth 10))

@@ -1,6 +1,6 @@
 use Rattle.frame.proofs.Choose.{choose}
 use Rattle.sci.proofs.Clauses.{fill-tail-clauses, load-tail-on-clauses}
-use Rattle.sci.proofs.Steps.{load-tail-else, loads}
+use Rattle.sci.proofs.Steps.{load-tail-else}
 use Rattle.sci.specs.Registers.{load-tail}
 use borrow.Author.Needs.{needs}
 use Rattle.sci.proofs.Port.load_tail.Statement.{statement}
@@ -18,6 +18,5 @@ load-tail-spec =
     (λ c. search (load-tail-on-clauses, fill-tail-clauses, choose) depth 10)
     (λ c κs. search needs)
     (λ c κs. search needs)
-    (λ c κs. search needs)
-    (λ c. search (load-tail-on-clauses, fill-tail-clauses, loads, choose) depth 10)
+    (λ c. search (load-tail-on-clauses, fill-tail-clauses, choose) depth 10)
     (λ c. search (load-tail-on-clauses, fill-tail-clauses, choose) depth 10))

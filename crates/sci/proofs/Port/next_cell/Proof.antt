@@ -1,6 +1,6 @@
 use Rattle.frame.proofs.Choose.{choose}
-use Rattle.sci.proofs.Steps.{loads, stops-end, stops-fit}
-use Rattle.sci.proofs.Under.{drive-of, with-tx-of}
+use Rattle.sci.proofs.Steps.{stops, stops-end, stops-fit}
+use Rattle.sci.proofs.Under.{drive-of, tailed-of, with-tx-of}
 use Rattle.sci.specs.Sender.{next-cell}
 use borrow.Author.Needs.{needs}
 use Rattle.sci.proofs.Port.next_cell.Statement.{statement}
@@ -18,8 +18,7 @@ next-cell-spec =
     (λ c. search (stops-fit, needs))
     (λ c. search (stops-end, needs))
     (λ c κs. search needs)
-    (λ c κs. search needs)
-    (λ c. search (loads, drive-of, choose) depth 10)
+    (λ c. search (stops, tailed-of, drive-of, choose) depth 10)
     (λ c. search needs)
     (λ c κs. search needs)
-    (λ c. search (loads, with-tx-of, drive-of, choose) depth 10))
+    (λ c. search (stops, with-tx-of, drive-of, choose) depth 10))

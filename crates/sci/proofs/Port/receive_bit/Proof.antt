@@ -1,6 +1,9 @@
 use Rattle.frame.proofs.Choose.{choose}
+use Rattle.words.proofs.Steps.{synchronous-of}
+use Rattle.words.proofs.Under.{clocked-word-of}
 use Rattle.sci.proofs.Clauses.{receive-bit-on-clauses}
-use Rattle.sci.proofs.Steps.{held}
+use Rattle.sci.proofs.Steps.{clocked-begun, clocked-synchronous, held}
+use Rattle.sci.proofs.Under.{take-bit-of}
 use Rattle.sci.specs.Clocked.{receive-bit}
 use borrow.Author.Needs.{needs}
 use Rattle.sci.proofs.Port.receive_bit.Statement.{statement}
@@ -14,7 +17,10 @@ receive-bit-spec =
     (λ c. search needs)
     (λ c. search needs)
     (λ c κs. search needs)
-    (λ c. search (receive-bit-on-clauses, choose) depth 10)
+    (λ c κs. search needs)
+    (λ c κs. search (clocked-begun, clocked-synchronous, needs) depth 10)
+    (λ c. search (receive-bit-on-clauses, take-bit-of, clocked-word-of, synchronous-of, choose) depth 10)
+    (λ c. search (receive-bit-on-clauses, synchronous-of, choose) depth 10)
     (λ c κs. search (held, needs) depth 10)
     (λ c. search (receive-bit-on-clauses, choose) depth 10)
     (λ c. search (receive-bit-on-clauses, choose) depth 10)

@@ -1,5 +1,6 @@
 use Rattle.frame.proofs.Choose.{choose}
 use Rattle.words.proofs.Steps.{bools}
+use Rattle.sci.proofs.Steps.{mark-end, mark-fit, mark-of}
 use borrow.Author.Needs.{needs}
 use Rattle.sci.proofs.Port.scr_tx.Statement.{statement}
 use Rattle.sci.proofs.Port.scr_tx.Tie as tie
@@ -10,7 +11,11 @@ scr-tx-spec =
     (tie.spec
     (λ c κs. search needs)
     (λ c κs. search needs)
-    (λ c. search (bools, choose) depth 10)
+    (λ c κs. search needs)
+    (λ c. search (mark-fit, needs))
+    (λ c. search (mark-end, needs))
+    (λ c κs. search needs)
+    (λ c. search (mark-of, bools, choose) depth 10)
     (λ c. search (bools, choose) depth 10)
     (λ c κs. search needs)
     (λ c. search choose depth 10))
