@@ -63,7 +63,7 @@ module _ (z : Answer) (p : Port) (v : Bool) (ev : v ≡ valid p) where
   unfolding direct
   refused-by-8 k f e = cond-f (valid p) _ _ z (sym ev ∙ f) e
 
-  pub taken : (k : Call) → v ≡ true → z ≡ called k p → z ≡ direct k p
+  taken : (k : Call) → v ≡ true → z ≡ called k p → z ≡ direct k p
   unfolding direct
   taken k t e = cond-t (valid p) _ _ z (sym ev ∙ t) e
 

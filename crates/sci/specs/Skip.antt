@@ -63,10 +63,11 @@ idle-for n p =
     && (ltb n (within (tx-next (p .tx)) (p .half) (n + 1)) && (ltb n (within (rx-next (p .rx)) (p .half) (n + 1)) && ltb n (within (p .«sync_next») (p .half) (n + 1)))))
 
 -- ---- an edge of the basic clock, counted: a half of the internal one, or with the flag `pin` an edge of the clock pin to a level
--- the edge of clocked form's clock that comes with it, if one does: the pin's, or the port's own at its due half
+-- the port's own clock toggles; an edge of the pin leaves it as it is
 abbrev pub toggled : Bool → Port → Port
 toggled pin p = cond pin p (with-clock p Never (not (p .sck)))
 
+-- the edge of clocked form's clock that comes with it, if one does: the pin's, or the port's own at its due half
 abbrev pub edge-of : Bool → Bool → Port → Port
 edge-of pin level p = cond pin (sync-edge level p) (clocked-edge p)
 

@@ -953,7 +953,7 @@ impl Port {
                 cell,
                 next: _,
             } => self.next_cell(character, cell + 1),
-            Tx::Tail { loaded, next: _ } => { self.finish_tail(loaded) }
+            Tx::Tail { loaded, next: _ } => self.finish_tail(loaded),
         }
     }
 

@@ -11,8 +11,6 @@ use Rattle.frame.proofs.Words.{shape}
 use Rattle.sci.specs.declared.Clock.{Clock}
 use Rattle.sci.specs.declared.Clock.the-variants.{Driven}
 use Rattle.sci.specs.declared.Drive.the-variants.{High, Low}
-use Rattle.sci.specs.declared.Transmit.{Transmit}
-use Rattle.sci.specs.declared.Pins.{Pins}
 use Rattle.sci.specs.Pins.{high-or-low}
 
 -- the clock pin driven at a level
@@ -31,7 +29,3 @@ spans f h = omega (arith, shape f h .long)
 -- the second half of a cell, from the format that a call gave
 pub second-half : (f g : Format) (h : ℕ) → f ≡ g → leb (f .«half_bit» / 2) (h % f .«half_bit») ≡ leb (g .«half_bit» / 2) (h % g .«half_bit»)
 second-half f g h e = ap (λ (x : Format). leb (x .«half_bit» / 2) (h % x .«half_bit»)) e
-
--- pins are equal where their parts are
-pub same-pins : (a0 b0 : Clock) (a1 b1 : Transmit) (a2 b2 : Bool) → a0 ≡ b0 → a1 ≡ b1 → a2 ≡ b2 → _≡_ {A = Pins} (record { clock = a0; transmit = a1; receive = a2 }) (record { clock = b0; transmit = b1; receive = b2 })
-same-pins a0 b0 a1 b1 a2 b2 p0 p1 p2 = λ i. record { clock = p0 i; transmit = p1 i; receive = p2 i }

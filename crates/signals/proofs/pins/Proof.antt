@@ -1,5 +1,5 @@
 use Rattle.frame.proofs.Choose.{choose}
-use Rattle.signals.proofs.Laws.{same-pins}
+use Rattle.sci.proofs.Same.{same-pins}
 use Rattle.sci.specs.Pins.{pins}
 use borrow.Author.Needs.{needs}
 use Rattle.signals.proofs.pins.Statement.{statement}
