@@ -9,14 +9,14 @@ use lib.Dec.{eqb}
 use lib.IntN.{pos}
 use Rattle.frame.specs.Frame.{format}
 use Rattle.sci.specs.declared.Port.{Port}
-use Rattle.words.specs.declared.Due.the-variants.{At}
+use Rattle.words.specs.declared.Due.the-variants.{Never, At}
 use Rattle.words.specs.declared.Receiver.the-variants.{Busy}
 use Rattle.words.specs.declared.Tx.{Tx}
 use Rattle.words.specs.declared.Tx.the-variants.{Off, Blocked, Mark, Start, Data, Tail}
-use Rattle.sci.specs.Fields.{with-half, with-rx}
+use Rattle.sci.specs.Fields.{with-half, with-tx, with-rx, with-sync-next, with-transmitted, with-received}
 use Rattle.sci.specs.Power.{fresh}
 use Rattle.sci.specs.Valid.{limit}
-use Rattle.sci.specs.Calls.{Call, reads, writes, lets-pass, sets-line, sets-pins, sets-power, passes-inside, Answer, done, refused, after}
+use Rattle.sci.specs.Calls.{Call, reads, writes, lets-pass, sets-line, sets-pins, sets-power, passes-inside, Answer, done, refused, after, run}
 use Rattle.sci.specs.Facts.{answered, after-calls, line, receiving, words-on-line, receives, as-received}
 
 -- a test that holds of every row
@@ -25,7 +25,8 @@ every test [] = true
 every test (r ∷ rs) = test r && every test rs
 
 -- ---- refusals
--- a running port, that port at the last half count, and a port with receive position 10, which 8 data bits without parity do not have
+-- a running port, that port at the last half count; a port that receives 8 data bits without parity, at this position and with its next sample due at this
+-- half; one with position 10, which such a word does not have
 unfoldable pub on : Port
 unfolding after-calls
 on = after-calls (sets-power 3 ∷ [])
@@ -34,10 +35,14 @@ unfoldable pub at-limit : Port
 unfolding on
 at-limit = with-half on limit
 
-unfoldable pub misplaced : Port
+unfoldable pub receiving-at : ℕ → ℕ → Port
 unfolding fresh format
-misplaced =
-    with-rx fresh (Busy (record { format = format 0 0; value = 0; position = pos 10; parity = false; error = 0; next = At 1 }))
+receiving-at position n =
+    with-rx fresh (Busy (record { format = format 0 0; value = 0; position = pos position; parity = false; error = 0; next = At n }))
+
+unfoldable pub misplaced : Port
+unfolding receiving-at
+misplaced = receiving-at 10 1
 
 -- document 01's number of a refusal, 0 for an accepted call
 abbrev pub refusal : Answer → ℕ
@@ -52,7 +57,8 @@ unfoldable pub as-numbered : Tried → Bool
 unfolding answered
 as-numbered (gives c p n) = eqb (refusal (answered c p)) n
 
--- document 01's examples; then operands at their ends, and the order of the tests: 8, 2, 1, 3, 4
+-- document 01's examples; then operands at their ends, and the order of the tests: 8, 2, 1, 3, 4; then due halves of sender, receiver and clocked edge at
+-- their ends, 1 to 448 above the half count
 abbrev pub refusals : List Tried
 refusals =
     gives (reads 0xffa5) fresh 1
@@ -73,10 +79,18 @@ refusals =
     ∷ gives (writes 0xffa5 256) fresh 2
     ∷ gives (writes 0xffa5 0x80) fresh 1
     ∷ gives (lets-pass 65536) at-limit 2
+    ∷ gives passes-inside (with-tx fresh (Mark 448)) 0
+    ∷ gives passes-inside (with-tx fresh (Mark 449)) 8
+    ∷ gives passes-inside (receiving-at 0 448) 0
+    ∷ gives passes-inside (receiving-at 0 449) 8
+    ∷ gives passes-inside (with-sync-next fresh (At 0)) 8
+    ∷ gives passes-inside (with-sync-next fresh (At 1)) 0
+    ∷ gives passes-inside (with-sync-next fresh (At 448)) 0
+    ∷ gives passes-inside (with-sync-next fresh (At 449)) 8
     ∷ []
 
 pub refusals-numbered : every as-numbered refusals ≡ true
-unfolding every as-numbered at-limit misplaced fresh
+unfolding every as-numbered at-limit misplaced receiving-at fresh
 refusals-numbered = refl
 
 -- ---- the mark after TE is set
@@ -151,3 +165,44 @@ written cs = after-calls (receiving 0 0 0 ++ (words-on-line 0 32 10 (0x2AA ∷ [
 pub status-written : written (reads 0xff9c ∷ []) ∷ written [] ∷ [] ≡ 0x84 ∷ 0xc4 ∷ []
 unfolding written
 status-written = refl
+
+-- ---- the order of work in a half
+-- the clocked edge comes after the basic work. A start-stop word ends in clocked mode: the rising edge of that half takes the next word's first bit. Mark
+-- ends with a clocked byte held: the falling edge of that half, 352, puts the byte's first bit on the line, on the internal clock and on the clock pin. Edge
+-- first, each bit would come one clock later
+pub edge-after-work : (after-calls
+    (sets-power 3 ∷ sets-line 0 ∷ writes 0xff9a 0x10 ∷ lets-pass 16 ∷ writes 0xff98 0x80 ∷ sets-line 1 ∷ lets-pass 288 ∷ []) .rx
+    ≡ Busy (record { format = format 0x80 0; value = 1; position = pos 1; parity = false; error = 0; next = Never }))
+    × (after-calls
+    (sets-power 3 ∷ writes 0xff9a 0x30 ∷ writes 0xff9b 0x01 ∷ lets-pass 350 ∷ writes 0xff98 0x80 ∷ lets-pass 2 ∷ []) .tx
+    ≡ Data (record { format = format 0x80 0; word = 1 }) 1 Never)
+    × (after-calls
+    (sets-power 3 ∷ writes 0xff9a 0x20 ∷ writes 0xff9b 0x01 ∷ writes 0xff98 0x80 ∷ lets-pass 351 ∷ writes 0xff9a 0x22 ∷ sets-pins 0 1 ∷ []) .tx
+    ≡ Data (record { format = format 0x80 0; word = 1 }) 1 Never)
+unfolding after-calls format
+edge-after-work = (refl, refl, refl)
+
+-- the sender's step comes before the receiver's: mark ends with a clocked byte held, and at that half, 352, a framing fault ends a start-stop word. The byte
+-- begins; receiver first it would wait for the error flag to be cleared
+pub sender-before-receiver : after-calls
+    (sets-power 3 ∷ writes 0xff9a 0x30 ∷ writes 0xff9b 0x01 ∷ lets-pass 48 ∷ sets-line 0 ∷ lets-pass 4 ∷ writes 0xff98 0x80 ∷ lets-pass 300 ∷ []) .tx
+    ≡ Data (record { format = format 0x80 0; word = 1 }) 0 Never
+unfolding after-calls format
+sender-before-receiver = refl
+
+-- ---- the tallies wrap to zero
+-- these calls on a fresh port with both tallies at their greatest
+unfoldable pub from-greatest : List Call → Port
+unfolding answered run fresh
+from-greatest cs =
+    run (with-transmitted (with-received fresh 0xffffffffffffffff) 0xffffffffffffffff) cs
+
+-- words sent, the last half before the end of the tail and that half; words received, after one word and after two, the first read
+pub tallies-wrapped : from-greatest (sets-power 3 ∷ writes 0xff9a 0x20 ∷ writes 0xff9b 0x00 ∷ lets-pass 671 ∷ []) .transmitted
+    ∷ from-greatest (sets-power 3 ∷ writes 0xff9a 0x20 ∷ writes 0xff9b 0x00 ∷ lets-pass 672 ∷ []) .transmitted
+    ∷ from-greatest (receiving 0 0 0 ++ words-on-line 0 32 10 (0x2AA ∷ [])) .received
+    ∷ from-greatest (receiving 0 0 0 ++ (words-on-line 0 32 10 (0x2AA ∷ []) ++ (reads 0xff9d ∷ words-on-line 0 32 10 (0x2CC ∷ [])))) .received
+    ∷ []
+    ≡ 0xffffffffffffffff ∷ 0 ∷ 0 ∷ 1 ∷ []
+unfolding from-greatest words-on-line
+tallies-wrapped = refl
