@@ -1,13 +1,20 @@
 // Plays the scripts of a fixed list and prints what each leaves: the file `stdout` beside src/ has the answers of the Rust reference, so they are compared
 // with no Rust at hand. A case of standard input is the log's length and the script's, two bytes each, low byte first, and the script. Printed are the
 // lines of its run as the program prints them, and a sum over the whole log, which was filled with AA, and the 53 numbers of the last state.
-// oracle/README.md has the command that made both files.
+// A case whose log's length is FFFF is a write instead: a number or a command is written into a buffer, and printed are the writer's answer and the buffer's
+// sum; `stdout` has what a writer in Rust makes of it. oracle/README.md has the layout of both, and the command that made both files.
 ghost use Prim.Native.Nat.{_≤_};
 use capi::sci3_fresh;
 use capi::sci3_play;
 use player::RECORD;
+use script::Command;
+use script::Written;
 
 const LOG: usize = 40960;
+// The log's length of a case that is a write.
+const WRITE: usize = 65535;
+// The kind of a write that only asks whether bytes fit.
+const FITS: usize = 8;
 
 fn wide(byte: u8) -> usize
     ensures { λ r. ⌜ r ≤ 255 ⌝ }
@@ -124,7 +131,10 @@ fn replay(script: &[u8], room: usize) {
     replay_on(script, &mut log[0..room]);
 }
 
-fn two_bytes(s: &[u8], at: usize) -> usize {
+// Numbers of a case, low byte first; 0 where the case ends before.
+fn two_bytes(s: &[u8], at: usize) -> usize
+    ensures { λ r. ⌜ r ≤ 65535 ⌝ }
+{
     if s.len() < 2 {
         return 0;
     }
@@ -134,7 +144,92 @@ fn two_bytes(s: &[u8], at: usize) -> usize {
     0
 }
 
-// Replays the case at an offset, and answers the offset of the next, or the list's end.
+fn four_bytes(s: &[u8], at: usize) -> usize
+    ensures { λ r. ⌜ r ≤ 4294967295 ⌝ }
+{
+    if s.len() < 4 {
+        return 0;
+    }
+    if at <= s.len() - 4 {
+        return two_bytes(s, at) + 65536 * two_bytes(s, at + 2);
+    }
+    0
+}
+
+fn eight_bytes(s: &[u8], at: usize) -> usize {
+    if s.len() < 8 {
+        return 0;
+    }
+    if at <= s.len() - 8 {
+        return four_bytes(s, at) + 4294967296 * four_bytes(s, at + 4);
+    }
+    0
+}
+
+// The command of a kind, with operands as they come.
+fn command(kind: usize, a: u32, b: u32) -> Command {
+    match kind {
+        1 => Command::Read { address: a },
+        2 => Command::Write {
+            address: a,
+            value: b,
+        },
+        3 => Command::Wait { halves: a },
+        4 => Command::Line { line: a },
+        5 => Command::Pins { clock: a, line: b },
+        6 => Command::Power { bits: a },
+        _ => Command::Inside,
+    }
+}
+
+// Writes the case's number or command into the buffer.
+fn written(buf: &mut [u8], s: &[u8]) -> Written {
+    let kind = two_bytes(s, 0);
+    let a = four_bytes(s, 2) as u32;
+    let at = eight_bytes(s, 18);
+    if kind == 0 {
+        return script::write_number(buf, at, a);
+    }
+    script::write_command(buf, at, command(kind, a, four_bytes(s, 6) as u32))
+}
+
+fn print_written(answer: Written) {
+    match answer {
+        Written::To(end) => {
+            io::write_all(1, b"to ");
+            io::print_decimal(1, end as u64);
+            io::write_all(1, b"\n");
+        }
+        Written::Full => {
+            io::write_all(1, b"full\n");
+        }
+    }
+}
+
+fn write_on(s: &[u8], buf: &mut [u8]) {
+    print_written(written(buf, s));
+    print_sum(with_bytes(2166136261, buf));
+}
+
+// A write: of its buffer's length, or only the test.
+fn write(s: &[u8]) {
+    let length = eight_bytes(s, 10);
+    if two_bytes(s, 0) == FITS {
+        if store::fits(length, eight_bytes(s, 18), eight_bytes(s, 2)) {
+            io::write_all(1, b"fits\n");
+        } else {
+            io::write_all(1, b"full\n");
+        }
+        return;
+    }
+    if length > 32 {
+        return;
+    }
+    let mut buf = [0xAAu8; 32];
+    write_on(s, &mut buf[0..length]);
+}
+
+// Replays the case at an offset, or makes its write, and answers the offset of the next, or the list's end.
 fn replay_at(s: &[u8], at: usize) -> usize {
     if s.len() < 4 {
         return s.len();
@@ -149,7 +244,11 @@ fn replay_at(s: &[u8], at: usize) -> usize {
         return s.len();
     }
     let end = start + length;
-    replay(&s[start..end], room);
+    if room == WRITE {
+        write(&s[start..end]);
+    } else {
+        replay(&s[start..end], room);
+    }
     end
 }
 
@@ -168,9 +267,9 @@ fn replay_all(s: &[u8]) -> u32 {
 }
 
 fn main() {
-    let mut list = [0u8; 262144];
+    let mut list = [0u8; 294912];
     let n = io::read_full(0, &mut list);
-    let scripts = replay_all(&list[..n]);
-    io::print_decimal(1, scripts as u64);
-    io::write_all(1, b" scripts\n");
+    let cases = replay_all(&list[..n]);
+    io::print_decimal(1, cases as u64);
+    io::write_all(1, b" cases\n");
 }

@@ -1,7 +1,7 @@
-//! What is checked on the oracle: the findings of the notes on the reference,
-//! document 01's own cases, and the notes' tables of grown states. Each check
-//! of the first two is a figure from the paper beside what the reference gave,
-//! both as text, so that a line shows both.
+//! What is checked on the oracle: the findings of docs/DIFFERENCES.md, document
+//! 01's own cases, and tables of grown states. Each check of the first two is a
+//! figure from the paper beside what the reference gave, both as text, so that
+//! a line shows both.
 pub mod document;
 pub mod findings;
 pub mod grown;

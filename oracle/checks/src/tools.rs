@@ -7,6 +7,8 @@ pub struct Part {
     pub input: String,
     pub expected: String,
     pub met: String,
+    /// The script, where the input is one for a fresh port.
+    pub script: Option<String>,
 }
 
 impl Part {
@@ -19,6 +21,14 @@ impl Part {
             input: input.into(),
             expected: expected.into(),
             met: met.into(),
+            script: None,
+        }
+    }
+    /// The same, its input being this script on a fresh port.
+    pub fn of(self, script: &str) -> Self {
+        Self {
+            script: Some(script.into()),
+            ..self
         }
     }
     pub fn agrees(&self) -> bool {
@@ -59,12 +69,12 @@ pub fn after(script: &str) -> Oracle {
 
 /// A script from a fresh port, and what the state then shows.
 pub fn shows(script: &str, expected: &str, show: impl FnOnce(&State) -> String) -> Part {
-    Part::new(script, expected, show(&after(script).state()))
+    Part::new(script, expected, show(&after(script).state())).of(script)
 }
 
 /// The end of a script from a fresh port, as the program prints it.
 pub fn ends(script: &str, expected: &str) -> Part {
-    Part::new(script, expected, end(&mut Oracle::fresh(), script))
+    Part::new(script, expected, end(&mut Oracle::fresh(), script)).of(script)
 }
 
 pub fn end(oracle: &mut Oracle, script: &str) -> String {

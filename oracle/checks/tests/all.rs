@@ -2,7 +2,9 @@
 
 #[test]
 fn findings() {
-    for finding in checks::findings::all(500) {
+    let numbered = checks::findings::all(500);
+    assert_eq!(numbered.len(), 20);
+    for finding in [numbered, checks::findings::others(500)].concat() {
         assert!(finding.confirmed(), "{}", finding.line());
     }
 }

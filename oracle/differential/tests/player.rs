@@ -53,8 +53,8 @@ fn replay_list() {
             .expect("no fault");
         text.push_str(&list::lines(&played, &log, &words));
     }
-    text.push_str(&format!("{} scripts\n", items.len()));
-    assert!(text == list::printout(&items).expect("no fault"));
+    text.push_str(&format!("{} cases\n", items.len()));
+    assert!(text == list::printout(&items, &[]).expect("no fault"));
 }
 
 #[test]

@@ -11,6 +11,7 @@ use differential::{
         make,
         player::{Played, Player, first_words},
         run::{Ground, Part, Walk, gate, report, run, self_test, trial},
+        writes::{self, FITS, Write},
     },
 };
 use model::{LOG, RECORD, SCRIPT, bytes};
@@ -186,32 +187,30 @@ fn sums() {
 /// refusal that a fresh port can meet is in it.
 #[test]
 fn replay_list() {
-    let items = list::items();
+    let (items, writes) = (list::items(), writes::all());
     let (cases, printout) = (
-        list::cases(&items),
-        list::printout(&items).expect("no fault"),
+        list::cases(&items, &writes),
+        list::printout(&items, &writes).expect("no fault"),
     );
-    assert!((4000..=6000).contains(&items.len()), "{}", items.len());
-    assert!(cases.len() + printout.len() < 1_200_000);
+    assert!(cases.len() < list::LIST, "{}", cases.len());
     let mut rest = &cases[..];
     let mut text = String::new();
     let mut player = right();
-    let mut count = 0;
-    while let [a, b, c, d, behind @ ..] = rest {
-        let log = usize::from(u16::from_le_bytes([*a, *b]));
-        let length = usize::from(u16::from_le_bytes([*c, *d]));
-        assert!(log <= LOG && length <= SCRIPT);
-        let (script, behind) = behind.split_at(length);
+    for item in &items {
+        let (case, behind) = rest.split_at(4 + item.script.len());
+        let lengths = [item.log, item.script.len()].map(|n| (n as u16).to_le_bytes());
+        assert_eq!(case, [&lengths.concat()[..], &item.script].concat());
         rest = behind;
-        let mut log = vec![0xaa; log];
+        assert!(item.log <= LOG && item.script.len() <= SCRIPT);
+        let mut log = list::blank(item);
         let mut words = first_words(&Start::Fresh);
-        let played = player.play(&mut words, script, &mut log).expect("no fault");
+        let played = player
+            .play(&mut words, &item.script, &mut log)
+            .expect("no fault");
         text.push_str(&list::lines(&played, &log, &words));
-        count += 1;
     }
-    assert!(rest.is_empty());
-    text.push_str(&format!("{count} scripts\n"));
-    assert!(text == printout);
+    assert_eq!(rest.len(), 30 * writes.len());
+    assert!(printout.starts_with(&text));
     for number in [1, 2, 3, 5, 6, 7, 9] {
         for place in [" at 0\n", ""] {
             let line = format!("\nrefused {number}{place}");
@@ -221,4 +220,100 @@ fn replay_list() {
     let records = printout.lines().filter(|line| line.len() == 11);
     assert!(records.count() > 10 * RECORD);
     assert!(printout.contains("1 80 80 0 0\nend 352\n"));
+}
+
+/// Every finding of docs/DIFFERENCES.md but 3, which no input shows, has its
+/// scripts in the list, among them the first of its row or one that begins so.
+#[test]
+fn findings_are_in_the_list() {
+    let items = list::items();
+    let stored: HashSet<&[u8]> = items.iter().map(|item| &item.script[..]).collect();
+    let mut of: Vec<Vec<Vec<u8>>> = vec![Vec::new(); 21];
+    for (number, script) in checks::findings::scripts() {
+        let script = bytes(&script);
+        assert!(stored.contains(&script[..]), "{number}: {script:x?}");
+        of[number.parse::<usize>().expect("a number")].push(script);
+    }
+    let document = include_str!("../../../docs/DIFFERENCES.md");
+    for (number, scripts) in (1..).zip(&of[1..]).filter(|(number, _)| *number != 3) {
+        let row = document
+            .lines()
+            .find(|line| line.starts_with(&format!("| {number} | ")))
+            .unwrap_or_else(|| panic!("finding {number} has no row"));
+        let input = row.split(" | ").nth(2).expect("an input");
+        let first = bytes(input.split('`').nth(1).expect("a script"));
+        assert!(scripts.iter().any(|s| s.starts_with(&first)), "{number}");
+    }
+}
+
+/// What a writer answers and leaves.
+type Wrote = (Option<u64>, Vec<u8>);
+
+/// Wrong writers print something else.
+#[test]
+fn writes_tell_wrong_writers() {
+    fn with(write: &Write, bytes: Vec<u8>) -> Wrote {
+        let (to, mut buffer) = write.written();
+        if to.is_none() || write.kind == FITS {
+            return (to, buffer);
+        }
+        let at = write.at as usize;
+        buffer[at..].fill(list::FILL);
+        for (place, byte) in buffer[at..].iter_mut().zip(&bytes) {
+            *place = *byte;
+        }
+        (Some(write.at + bytes.len() as u64), buffer)
+    }
+    let wrong: [(&str, fn(&Write) -> Wrote); 6] = [
+        ("high group first", |w| {
+            with(w, w.bytes().into_iter().rev().collect())
+        }),
+        ("a zero byte more", |w| {
+            let mut bytes = w.bytes();
+            *bytes.last_mut().expect("a byte") |= 0x80;
+            bytes.push(0);
+            with(w, bytes)
+        }),
+        ("operands swapped", |w| {
+            let swapped = Write {
+                a: w.b,
+                b: w.a,
+                ..*w
+            };
+            match w.kind {
+                2 | 5 => with(w, swapped.bytes()),
+                _ => w.written(),
+            }
+        }),
+        ("an operand cut to its range", |w| {
+            let cut = Write {
+                a: w.a.min(0xffff),
+                ..*w
+            };
+            match w.kind {
+                1 => with(w, cut.bytes()),
+                _ => w.written(),
+            }
+        }),
+        ("a byte written where it is full", |w| {
+            let (to, mut buffer) = w.written();
+            if let (None, Some(byte)) = (to, buffer.last_mut()) {
+                *byte = 0;
+            }
+            (to, buffer)
+        }),
+        ("the sum made in 64 bits", |w| {
+            match w.at.wrapping_add(w.size()) <= w.length {
+                true if !w.fits() => (Some(0), w.written().1),
+                _ => w.written(),
+            }
+        }),
+    ];
+    let text = |write: fn(&Write) -> Wrote| -> String {
+        let all = writes::all();
+        all.iter().map(|w| writes::lines(w, &write(w))).collect()
+    };
+    for (name, write) in wrong {
+        assert_ne!(text(write), text(Write::written), "{name}");
+    }
 }

@@ -63,13 +63,14 @@ pub enum ClockDrive {
     High,
 }
 
-/// How a half is stepped: as document 01 says, or one of two experiments.
+/// How a half is stepped: as document 01 says, or one of three experiments.
 #[derive(Clone, Copy, Debug, Default, PartialEq, Eq)]
 pub enum Pass {
     #[default]
     Reference,
     WithoutExtraPass,
     EdgeFirst,
+    ReceiverFirst,
 }
 
 /// What is done around the reference. The default is document 01's.
@@ -271,6 +272,7 @@ impl Oracle {
             Pass::Reference => self.sci.advance(now, clocks)?,
             Pass::WithoutExtraPass => self.sci.oracle_advance_without_extra_pass(now, clocks)?,
             Pass::EdgeFirst => self.sci.oracle_advance_edge_first(now, clocks)?,
+            Pass::ReceiverFirst => self.sci.oracle_advance_receiver_first(now, clocks)?,
         }
         self.tidy();
         let to = self.sci.oracle_half();

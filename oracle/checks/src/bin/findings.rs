@@ -1,7 +1,7 @@
-//! Prints one line for each finding of the notes on the reference. With
+//! Prints one line for each finding of docs/DIFFERENCES.md and the others. With
 //! `--inputs` the inputs follow each line; a number is how many random runs
 //! each measured finding takes.
-use checks::findings::all;
+use checks::findings::{all, others};
 use std::process::ExitCode;
 
 fn main() -> ExitCode {
@@ -17,7 +17,7 @@ fn main() -> ExitCode {
             }
         }
     }
-    let findings = all(size);
+    let findings = [all(size), others(size)].concat();
     for finding in &findings {
         println!("{}", finding.line());
         for part in finding.parts.iter().filter(|_| inputs) {

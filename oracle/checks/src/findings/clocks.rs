@@ -1,4 +1,4 @@
-//! Findings 11 to 14: edge bit, pins, phase and the clocked edge.
+//! Findings 11 to 14 and 18: edge bit, pins, phase, the clocked edge, sources.
 use super::measured;
 use crate::{
     Part,
@@ -151,4 +151,16 @@ pub fn clocked_edge(size: u32) -> Vec<Part> {
     }
     parts.push(measured::power_refresh(size));
     parts
+}
+
+/// 18: with the subclock alone halves pass only with SMR bits 0 and 1 at 1.
+pub fn sources() -> Vec<Part> {
+    [
+        ("06 05 03 01", "half 0"),
+        ("06 05 02 98 FF 03 01 03 01", "half 1"),
+        ("06 05 02 98 FF 03 02 03 01", "half 0"),
+        ("06 05 02 98 FF 03 03 03 01", "half 0"),
+    ]
+    .map(|(script, expected)| shows(script, expected, |s| format!("half {}", s.half)))
+    .into()
 }

@@ -1,5 +1,6 @@
-//! What cannot be shown by one input: findings 5, 19, 21 and a part of 14,
-//! measured on random runs from fresh ports and from given states.
+//! What one input alone cannot show: findings 3, 4, 19 and a part of 14, the
+//! field test and `bit_start`, measured on random runs from fresh ports and from
+//! given states.
 use super::runs::{Sample, count, none, shown};
 use crate::{
     Part,
@@ -17,11 +18,11 @@ fn stepping(pass: Pass) -> Habits {
     }
 }
 
-/// 5: the extra pass changes nothing; the order of work and edge does.
+/// 3: the extra pass changes nothing.
 pub fn extra_pass(size: u32) -> Vec<Part> {
     let usual = Habits::default();
     let without = stepping(Pass::WithoutExtraPass);
-    let mut parts = vec![
+    vec![
         none(
             format!("{size} lists from fresh ports, with and without the pass"),
             count(size, Sample::fresh, |s| s.differs(usual, without)),
@@ -30,14 +31,17 @@ pub fn extra_pass(size: u32) -> Vec<Part> {
             format!("{size} given states, with and without the pass"),
             count(size, Sample::given, |s| s.differs(usual, without)),
         ),
-    ];
-    // That a difference would be seen: the swapped order gives some. They
-    // are rare, so a small size would show none.
+    ]
+}
+
+/// 4: the order of work in a half shows.
+pub fn order(size: u32) -> Vec<Part> {
+    // Rare in lists, so a small size would show none.
     let enough = size.max(500);
     let swapped = count(enough, Sample::fresh, |s| {
-        s.differs(usual, stepping(Pass::EdgeFirst))
+        s.differs(Habits::default(), stepping(Pass::EdgeFirst))
     });
-    parts.push(Part::new(
+    let mut parts = vec![Part::new(
         format!("{enough} lists from fresh ports, clocked edge first"),
         "some differ",
         match swapped {
@@ -45,26 +49,58 @@ pub fn extra_pass(size: u32) -> Vec<Part> {
             Ok(_) => "some differ".into(),
             Err(fault) => fault,
         },
-    ));
-    // A start-stop word ends in clocked mode, where the clocked edge of the
-    // same half takes the next word's first bit.
-    let script = "06 03 04 00 02 9A FF 03 10 03 10 02 98 FF 03 80 01 04 01 03 A0 02";
-    let mut edge_first = Oracle::fresh_with(Setup {
-        habits: stepping(Pass::EdgeFirst),
-        ..Setup::default()
-    });
-    let other = match run(&mut edge_first, script) {
-        Ok(_) => receiver(&edge_first.state()),
-        Err(fault) => fault.to_string(),
-    };
-    parts.push(shows(script, "position 1 due none", receiver));
-    parts.push(Part::new(
-        format!("clocked edge first: {script}"),
-        "no receiver",
-        other,
+    )];
+    for (pass, show, script, right, wrong) in ORDERS {
+        let mut port = Oracle::fresh_with(Setup {
+            habits: stepping(*pass),
+            ..Setup::default()
+        });
+        let other = match run(&mut port, script) {
+            Ok(_) => show(&port.state()),
+            Err(fault) => fault.to_string(),
+        };
+        parts.push(shows(script, right, show));
+        parts.push(Part::new(format!("{pass:?}: {script}"), *wrong, other));
+    }
+    // The same on an edge of the clock pin.
+    parts.push(shows(
+        "06 03 02 9A FF 03 20 02 9B FF 03 01 02 98 FF 03 80 01 03 DF 02 02 9A FF 03 22 05 00 01",
+        "data 1 due none",
+        sender,
     ));
     parts
 }
+
+type Show = fn(&State) -> String;
+
+/// Another order, a script that shows it, and what the reference and the other
+/// order then give: a start-stop word ends in clocked mode, where the edge of
+/// the same half takes the next word's first bit; mark ends at a falling edge,
+/// which puts a clocked byte's first bit on the line; mark ends with a clocked
+/// byte held at the half at which a framing fault ends a word.
+const ORDERS: &[(Pass, Show, &str, &str, &str)] = &[
+    (
+        Pass::EdgeFirst,
+        receiver,
+        "06 03 04 00 02 9A FF 03 10 03 10 02 98 FF 03 80 01 04 01 03 A0 02",
+        "position 1 due none",
+        "no receiver",
+    ),
+    (
+        Pass::EdgeFirst,
+        sender,
+        "06 03 02 9A FF 03 30 02 9B FF 03 01 03 DE 02 02 98 FF 03 80 01 03 02",
+        "data 1 due none",
+        "data 0 due none",
+    ),
+    (
+        Pass::ReceiverFirst,
+        sender,
+        "06 03 02 9A FF 03 30 02 9B FF 03 01 03 30 04 00 03 04 02 98 FF 03 80 01 03 AC 02",
+        "data 0 due none",
+        "no sender",
+    ),
+];
 
 /// 14, in part: in a grown port the refresh of kind 6 changes nothing.
 pub fn power_refresh(size: u32) -> Part {
@@ -95,7 +131,7 @@ pub fn power_refresh(size: u32) -> Part {
     )
 }
 
-/// 19: the field test against `validate`, and that every call keeps it.
+/// The field test against `validate`, and that every call keeps it.
 pub fn field_test(size: u32) -> Vec<Part> {
     let kept = |s: &Sample| {
         let mut port = s.port(Habits::default());
@@ -196,8 +232,8 @@ fn stricter() -> Vec<(&'static str, State)> {
     ]
 }
 
-/// 21: what reaches neither log nor state, and `bit_start`.
-pub fn left_out(size: u32) -> Vec<Part> {
+/// 19: the clock pin's excursion reaches neither log nor state.
+pub fn glitch(size: u32) -> Vec<Part> {
     let glitching = Habits {
         end_glitch: false,
         ..Habits::default()
@@ -211,24 +247,23 @@ pub fn left_out(size: u32) -> Vec<Part> {
         && port.glitch()
         && port.clock_drive() == ClockDrive::Low
         && port.state() == after(script).state();
-    let sending = "06 03 03 05 02 98 FF 03 80 01 02 9A FF 03 20 02 9B FF 03 00";
-    let drive = |s: &State| format!("{}, bit_start {}", sender(s), s.bit_start);
+    let expected = "clock pin low, state the same";
     vec![
-        Part::new(
-            script,
-            "clock pin low, state the same",
-            if ended {
-                "clock pin low, state the same"
-            } else {
-                "otherwise"
-            },
-        ),
+        Part::new(script, expected, if ended { expected } else { "otherwise" }).of(script),
         none(
             format!("{size} lists from fresh ports, excursion kept and ended"),
             count(size, Sample::fresh, |s| {
                 s.differs(Habits::default(), glitching)
             }),
         ),
+    ]
+}
+
+/// What reads `bit_start`, and what moves it.
+pub fn bit_start(size: u32) -> Vec<Part> {
+    let sending = "06 03 03 05 02 98 FF 03 80 01 02 9A FF 03 20 02 9B FF 03 00";
+    let drive = |s: &State| format!("{}, bit_start {}", sender(s), s.bit_start);
+    vec![
         none(
             format!("{size} given states, two values of bit_start"),
             count(size, Sample::given, reads_bit_start),

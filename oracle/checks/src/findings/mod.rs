@@ -1,6 +1,6 @@
-//! The findings of the notes on the reference, by their numbers there. Where
-//! the notes have a sentence and no figure, the figure expected is worked out
-//! from the sentence by hand.
+//! The findings of docs/DIFFERENCES.md, by their numbers there, and what else
+//! was found. Where a finding has a sentence and no figure, the figure expected
+//! is worked out from the sentence by hand.
 mod clocks;
 mod measured;
 mod open;
@@ -12,8 +12,13 @@ mod words;
 
 use crate::Part;
 
+#[derive(Clone)]
 pub struct Finding {
-    pub number: u8,
+    /// Its number in docs/DIFFERENCES.md, or its subject.
+    pub name: String,
+    /// The reference has no script, no log and no refusal: what these show is
+    /// our code from document 01, and a second reading of it.
+    pub own: bool,
     pub parts: Vec<Part>,
 }
 
@@ -21,15 +26,13 @@ impl Finding {
     pub fn confirmed(&self) -> bool {
         !self.parts.is_empty() && self.parts.iter().all(Part::agrees)
     }
-    /// The finding's line: what the notes say, what the reference did.
+    /// The finding's line: what was expected, what the reference did.
     pub fn line(&self) -> String {
         format!(
-            "{} | notes: {} | {}: {} | {}",
-            self.number,
+            "{} | expected: {} | {}: {} | {}",
+            self.name,
             self.joined(|part| &part.expected),
-            // The reference has no script, no log and no refusal: what these
-            // show is our code from document 01, and a second reading of it.
-            if matches!(self.number, 1 | 2 | 18 | 20) {
+            if self.own {
                 "oracle's own rules"
             } else {
                 "Rust"
@@ -56,31 +59,62 @@ impl Finding {
     }
 }
 
-/// All of them. `size` is how many random runs each measured one takes.
+/// Those of the document. `size` is how many random runs each measured one
+/// takes.
 pub fn all(size: u32) -> Vec<Finding> {
+    let numbered = [
+        reference::cached_edge(),
+        reference::log_overflow(),
+        measured::extra_pass(size),
+        measured::order(size),
+        registers::status_write(),
+        registers::seen_bits(),
+        registers::data_write(),
+        registers::end_of_write(),
+        registers::reads(),
+        registers::resets(),
+        clocks::edge_bit(),
+        clocks::pins(),
+        clocks::phase(),
+        clocks::clocked_edge(size),
+        words::tallies(),
+        words::arming(),
+        words::mark(),
+        clocks::sources(),
+        measured::glitch(size),
+        words::stepped(),
+    ];
+    let finding = |(number, parts): (u8, _)| Finding {
+        name: number.to_string(),
+        own: false,
+        parts,
+    };
+    (1..).zip(numbered).map(finding).collect()
+}
+
+/// The scripts for fresh ports of those findings, with their numbers.
+pub fn scripts() -> Vec<(String, String)> {
+    let scripts = |finding: Finding| {
+        let of = move |part: Part| Some((finding.name.clone(), part.script?));
+        finding.parts.into_iter().filter_map(of)
+    };
+    all(0).into_iter().flat_map(scripts).collect()
+}
+
+/// Document 01's rules, which the reference has not, and `bit_start`.
+pub fn others(size: u32) -> Vec<Finding> {
     [
-        (1, open::printable()),
-        (2, open::capitals()),
-        (3, reference::cached_edge()),
-        (4, reference::log_overflow()),
-        (5, measured::extra_pass(size)),
-        (6, registers::status_write()),
-        (7, registers::data_write()),
-        (8, registers::end_of_write()),
-        (9, registers::reads()),
-        (10, registers::resets()),
-        (11, clocks::edge_bit()),
-        (12, clocks::pins()),
-        (13, clocks::phase()),
-        (14, clocks::clocked_edge(size)),
-        (15, words::tallies()),
-        (16, words::arming()),
-        (17, words::mark()),
-        (18, registers::module_off()),
-        (19, measured::field_test(size)),
-        (20, rules::order()),
-        (21, measured::left_out(size)),
+        ("4 and 8", true, open::printable()),
+        ("capitals", true, open::capitals()),
+        ("module off", true, registers::module_off()),
+        ("order of refusals", true, rules::order()),
+        ("field test", false, measured::field_test(size)),
+        ("bit_start", false, measured::bit_start(size)),
     ]
-    .map(|(number, parts)| Finding { number, parts })
+    .map(|(name, own, parts)| Finding {
+        name: name.into(),
+        own,
+        parts,
+    })
     .into()
 }

@@ -1,8 +1,8 @@
-//! Findings 1 and 2: open in document 01.
+//! What document 01 leaves open.
 use crate::Part;
 use model::{LIMIT, Oracle, SCRIPT, bytes, commands, field_test, line, play};
 
-/// 1: neither 4 nor 8 can come from the program.
+/// Neither 4 nor 8 can come from the program.
 pub fn printable() -> Vec<Part> {
     let fresh = match field_test(&Oracle::fresh().state()) {
         Ok(()) => "fresh port passes 8".into(),
@@ -28,7 +28,7 @@ pub fn printable() -> Vec<Part> {
     ]
 }
 
-/// 2: capitals in the printed lines.
+/// Capitals in the printed lines.
 pub fn capitals() -> Vec<Part> {
     let script = "06 03 02 9A FF 03 20 02 98 FF 03 AF 01 01 98 FF 03";
     let mut log = [0; 20];

@@ -1,11 +1,11 @@
-//! Findings 3 and 4: faults and limits in the reference itself.
+//! Findings 1 and 2: faults and limits in the reference itself.
 use crate::{
     Part,
     tools::{end, end_line, run, setup},
 };
 use model::{Fault, Habits, Oracle, SECOND, Setup, bytes, commands};
 
-/// 3: a change of clock misses a half where two clocks' tick counts meet.
+/// 1: a change of clock misses a half where two clocks' tick counts meet.
 pub fn cached_edge() -> Vec<Part> {
     let together = "06 01 02 98 FF 03 02 06 03 02 98 FF 03 00 03 01";
     // System/16 waits for count 17 + 256, then the system clock, given one
@@ -41,12 +41,12 @@ pub fn cached_edge() -> Vec<Part> {
             together,
             "end 1",
         ),
-        part("port from 1000 s", Setup::default(), together, "end 1"),
-        part("port from 1000 s", Setup::default(), apart, "end 1"),
+        part("port from 1000 s", Setup::default(), together, "end 1").of(together),
+        part("port from 1000 s", Setup::default(), apart, "end 1").of(apart),
     ]
 }
 
-/// 4: the optical log, which only the extra pass fills, holds 64 changes.
+/// 2: the optical log, which only the extra pass fills, holds 64 changes.
 pub fn log_overflow() -> Vec<Part> {
     let opening = "06 03 02 91 FF 03 10 02 9A FF 03 30 02 9B FF 03 55 03 D0 02";
     let round = "04 00 03 A0 02 02 9B FF 03 55 04 01 03 20 01 9D FF 03";
@@ -89,6 +89,6 @@ pub fn log_overflow() -> Vec<Part> {
             "65 changes",
             format!("{} changes", drained.drained()),
         ),
-        Part::new(format!("drained: {input}"), "drained: 47 records", whole),
+        Part::new(format!("drained: {input}"), "drained: 47 records", whole).of(&script),
     ]
 }

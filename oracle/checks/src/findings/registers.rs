@@ -1,24 +1,26 @@
-//! Findings 6 to 10 and 18: what reads, writes and power do.
+//! Findings 5 to 10: what reads, writes and power do; and the rows on addresses.
 use crate::{
     Part,
     tools::{after, bit, due, ends, given, hex, receiver, sender, shows},
 };
 use model::{Oracle, State, registers::RDR};
 
-/// 6: an SSR write loads the holding place and forgets seen bits.
+/// 5: an SSR write loads the holding place.
 pub fn status_write() -> Vec<Part> {
-    vec![
-        shows(
-            "06 03 02 9A FF 03 20 01 9C FF 03 02 9C FF 03 00",
-            "SSR 00, holding FF",
-            |s| format!("SSR {:02X}, holding {}", s.ssr, hex(s.holding)),
-        ),
-        shows(
-            "06 03 01 9C FF 03 02 9C FF 03 80 01",
-            "SSR 84, seen 80",
-            |s| format!("SSR {:02X}, seen {:02X}", s.ssr, s.seen),
-        ),
-    ]
+    vec![shows(
+        "06 03 02 9A FF 03 20 01 9C FF 03 02 9C FF 03 00",
+        "SSR 00, holding FF",
+        |s| format!("SSR {:02X}, holding {}", s.ssr, hex(s.holding)),
+    )]
+}
+
+/// 6: an SSR write forgets seen bits, TEND's too.
+pub fn seen_bits() -> Vec<Part> {
+    vec![shows(
+        "06 03 01 9C FF 03 02 9C FF 03 80 01",
+        "SSR 84, seen 80",
+        |s| format!("SSR {:02X}, seen {:02X}", s.ssr, s.seen),
+    )]
 }
 
 /// 7: a TDR write clears seen bits and may load the byte at once.
@@ -99,7 +101,8 @@ pub fn reads() -> Vec<Part> {
                 "interrupt {}",
                 bit(after("06 01 02 9A FF 03 80 01").interrupt())
             ),
-        ),
+        )
+        .of("06 01 02 9A FF 03 80 01"),
         Part::new(
             "SCR 80, module and reset mode on",
             "interrupt 1",
@@ -142,7 +145,8 @@ pub fn resets() -> Vec<Part> {
         Part::new(reset_mode, "SPCR D0, level 1", {
             let port = after(reset_mode);
             format!("{}, level {}", spcr(&port.state()), port.level())
-        }),
+        })
+        .of(reset_mode),
         Part::new(
             "a worn state: 06 09",
             "half 0, phase 1, edge 0, bit_start 0, sync_next none, sck 1, pins 0 0, tallies 5 6",
@@ -163,7 +167,7 @@ pub fn resets() -> Vec<Part> {
     ]
 }
 
-/// 18: the rows on addresses hold with the module off.
+/// The rows on addresses hold with the module off.
 pub fn module_off() -> Vec<Part> {
     vec![
         ends("02 A7 FF 03 80 01", "refused 3 at 0"),

@@ -1,4 +1,4 @@
-//! Finding 20: the player's order of refusals, which document 01 alone rules.
+//! The player's order of refusals, which document 01 alone rules.
 use crate::{
     Part,
     tools::{end_line, ends},

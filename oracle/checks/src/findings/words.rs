@@ -1,4 +1,4 @@
-//! Findings 15 to 17: which words count, how they start.
+//! Findings 15 to 17 and 20: which words count, how they start.
 use crate::{
     Part,
     tools::{hex, receiver, sender, shows},
@@ -119,4 +119,14 @@ pub fn mark() -> Vec<Part> {
             sender,
         ),
     ]
+}
+
+/// 20: stepped half by half a word is armed at the half after the clocked one
+/// ended. Driven by events: tests/events.rs of `benchmarks`.
+pub fn stepped() -> Vec<Part> {
+    vec![shows(
+        "06 03 02 98 FF 03 80 01 02 9A FF 03 10 04 00 03 1E 02 98 FF 03 00 03 12",
+        "position -1 due 50",
+        receiver,
+    )]
 }

@@ -1,6 +1,9 @@
 //! Writes the replay list, or with --check compares it with what would be
 //! written.
-use differential::scripts::list::{cases, items, printout};
+use differential::scripts::{
+    list::{cases, items, printout},
+    writes,
+};
 use std::{fs, process::ExitCode};
 
 const USAGE: &str = "\
@@ -30,9 +33,9 @@ fn main() -> ExitCode {
 }
 
 fn made(check: bool, first: &str, second: &str) -> Result<String, String> {
-    let items = items();
-    let printout = printout(&items)?.into_bytes();
-    let cases = cases(&items);
+    let (items, writes) = (items(), writes::all());
+    let printout = printout(&items, &writes)?.into_bytes();
+    let cases = cases(&items, &writes);
     for (path, bytes) in [(first, &cases), (second, &printout)] {
         if check {
             let old = fs::read(path).map_err(|error| format!("{path}: {error}"))?;
@@ -46,8 +49,9 @@ fn made(check: bool, first: &str, second: &str) -> Result<String, String> {
         }
     }
     Ok(format!(
-        "{} cases in {} bytes, printout of {} bytes, {}",
+        "{} scripts and {} writes in {} bytes, printout of {} bytes, {}",
         items.len(),
+        writes.len(),
         cases.len(),
         printout.len(),
         if check { "as they stand" } else { "written" }

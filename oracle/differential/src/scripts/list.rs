@@ -1,6 +1,7 @@
 //! The replay list: fixed cases on fresh ports, and what the oracle answers
-//! to each. A program of the proved port reads the cases and must print the
-//! same, so that a replay needs neither the reference nor this code.
+//! to each; then writes (`writes`). A program of the proved port reads the cases
+//! and must print the same, so that a replay needs neither the reference nor
+//! this code.
 //!
 //! Cases: for each the log's length and the script's, two bytes each, low
 //! first, and the script. Printout: for each case its records' lines, the last
@@ -8,20 +9,23 @@
 use super::{
     make::{self, BYTES, DAMAGES, MADE, Script},
     player::{Played, reference},
+    writes::{self, Write},
 };
 use crate::{
     compare::Start,
     layout::{HALF, Words, encode},
 };
 use model::{
-    Command, LOG, RECORD, SCRIPT, bytes, document, line,
+    Command, LOG, RECORD, SCRIPT, bytes, commands, document, line,
     registers::{RDR, SCR, SMR, SPCR, SSR, TDR},
     sample::Random,
 };
-use std::fmt::Write;
+use std::fmt::Write as _;
 
-/// What the log holds before a run.
-const FILL: u8 = 0xaa;
+/// What a log or a buffer holds before.
+pub const FILL: u8 = 0xaa;
+/// Bytes that the program reads.
+pub const LIST: usize = 294_912;
 const SEED: u64 = 0x5c13_0001;
 
 pub struct Item {
@@ -259,6 +263,10 @@ pub fn items() -> Vec<Item> {
     for log in (0..=5 * work.len()).step_by(3) {
         add(log, &whole[..whole.len() - 1]);
     }
+    for (_, script) in checks::findings::scripts() {
+        let script = bytes(&script);
+        add(RECORD * commands(&script).0.len(), &script);
+    }
     random(&mut add);
     // Long ones: the log filled to its end, one byte too short for the last
     // record, and full with a command left; the longest script of real work.
@@ -317,7 +325,7 @@ fn sum(log: &[u8], words: &Words) -> u32 {
     fnv(log.iter().copied().chain(words))
 }
 
-pub fn cases(items: &[Item]) -> Vec<u8> {
+pub fn cases(items: &[Item], writes: &[Write]) -> Vec<u8> {
     let mut all = Vec::new();
     for item in items {
         for length in [item.log, item.script.len()] {
@@ -325,6 +333,7 @@ pub fn cases(items: &[Item]) -> Vec<u8> {
         }
         all.extend_from_slice(&item.script);
     }
+    all.extend(writes.iter().flat_map(Write::case));
     all
 }
 
@@ -345,7 +354,7 @@ pub fn blank(item: &Item) -> Vec<u8> {
 }
 
 /// What the oracle answers to every case.
-pub fn printout(items: &[Item]) -> Result<String, String> {
+pub fn printout(items: &[Item], writes: &[Write]) -> Result<String, String> {
     let mut text = String::new();
     for (number, item) in items.iter().enumerate() {
         let mut log = blank(item);
@@ -353,6 +362,9 @@ pub fn printout(items: &[Item]) -> Result<String, String> {
             .map_err(|fault| format!("case {number}: {fault}"))?;
         text.push_str(&lines(&played, &log, &encode(&state)));
     }
-    let _ = writeln!(text, "{} scripts", items.len());
+    for write in writes {
+        text.push_str(&writes::lines(write, &write.written()));
+    }
+    let _ = writeln!(text, "{} cases", items.len() + writes.len());
     Ok(text)
 }

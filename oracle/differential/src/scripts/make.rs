@@ -21,7 +21,7 @@ fn put_number(bytes: &mut Vec<u8>, mut value: u32) {
     bytes.push(value as u8);
 }
 
-fn shortest(value: u32) -> Vec<u8> {
+pub(super) fn shortest(value: u32) -> Vec<u8> {
     let mut bytes = Vec::new();
     put_number(&mut bytes, value);
     bytes
@@ -29,7 +29,7 @@ fn shortest(value: u32) -> Vec<u8> {
 
 /// The numbers of a command: kind and operands. A kind that is none of the
 /// table's gets one operand, which nobody should read.
-fn numbers(c: Command) -> Vec<u32> {
+pub(super) fn numbers(c: Command) -> Vec<u32> {
     match c.kind {
         2 | 5 => vec![c.kind, c.a, c.b],
         7 => vec![7],

@@ -10,3 +10,4 @@ pub mod player;
 pub mod proved;
 pub mod run;
 pub mod shrink;
+pub mod writes;

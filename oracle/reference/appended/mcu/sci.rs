@@ -2,7 +2,7 @@
 // ---- Below: appended by the oracle's build script, not the reference. ----
 
 /// Access for the oracle. Nothing here takes part in what the port does,
-/// save for the two experiments at the end.
+/// save for the three experiments at the end.
 mod oracle {
     use super::*;
     use crate::snapshot;
@@ -275,6 +275,18 @@ mod oracle {
             }
             self.process_basic(Some(now), c)
                 .map(|()| self.refresh_sync_clock())
+        }
+        /// Experiment: the half at `now` with the receiver's step before the
+        /// sender's. What it has done is not due again in the same half.
+        pub fn oracle_advance_receiver_first(
+            &mut self,
+            now: Time,
+            c: &Clocks,
+        ) -> Result<(), Error> {
+            self.baud.step_to(self.baud.half + 1, self.reload());
+            self.baud.time(c)?;
+            self.advance_rx();
+            self.advance(now, c)
         }
     }
 }
