@@ -1,5 +1,6 @@
-//! The reference of the port, compiled unchanged from the reference folder
-//! (see build.rs), with stand-ins for what was not published with it.
+//! The reference of the port, compiled from the reference folder (see
+//! build.rs): its files as they are, accessors appended to two of them, and
+//! stand-ins for what was not published with it.
 //!
 //! What is ours: the stand-ins, `snapshot`, and the methods whose names begin
 //! with `oracle_`, which build.rs appends to the copies of sci.rs and baud.rs.

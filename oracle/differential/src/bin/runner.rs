@@ -28,7 +28,7 @@ runner [OPTIONS]       with no option: the gate
   --side capi|oracle   what stands beside the reference; oracle tries the
                        runner itself and compares no port";
 
-/// Calls of the gate: with the other parts about two minutes.
+/// Calls of the gate: with the other parts under a minute.
 const GATE_CALLS: u64 = 24_000_000;
 const GATE_SEED: u64 = 0x5c13_0000;
 /// Coverage is asserted from so many calls on, when all families run.
