@@ -248,72 +248,62 @@ fn findings_are_in_the_list() {
 
 /// What a writer answers and leaves.
 type Wrote = (Option<u64>, Vec<u8>);
+type Writer = fn(&Write) -> Wrote;
+
+/// The same write with other bytes, where it has any and they fit.
+fn with(write: &Write, bytes: Vec<u8>) -> Wrote {
+    let (to, mut buffer) = write.written();
+    if to.is_none() || write.kind == FITS {
+        return (to, buffer);
+    }
+    let at = write.at as usize;
+    buffer[at..].fill(list::FILL);
+    for (place, byte) in buffer[at..].iter_mut().zip(&bytes) {
+        *place = *byte;
+    }
+    (Some(write.at + bytes.len() as u64), buffer)
+}
+
+const WRONG_WRITERS: [(&str, Writer); 6] = [
+    ("high group first", |w| {
+        with(w, w.bytes().into_iter().rev().collect())
+    }),
+    ("not the shortest form", |w| {
+        let mut bytes = w.bytes();
+        *bytes.last_mut().expect("a byte") |= 0x80;
+        bytes.push(0);
+        with(w, bytes)
+    }),
+    ("pins swapped", |w| {
+        let (a, b) = if w.kind == 5 { (w.b, w.a) } else { (w.a, w.b) };
+        with(w, Write { a, b, ..*w }.bytes())
+    }),
+    ("an address cut to its range", |w| {
+        let a = if w.kind == 1 { w.a.min(0xffff) } else { w.a };
+        with(w, Write { a, ..*w }.bytes())
+    }),
+    ("the buffer touched where it is full", |w| {
+        let (to, mut buffer) = w.written();
+        if let (None, Some(byte)) = (to, buffer.last_mut()) {
+            *byte = 0;
+        }
+        (to, buffer)
+    }),
+    ("the sum wraps", |w| {
+        let (to, buffer) = w.written();
+        let wraps = w.at.checked_add(w.size()).is_none();
+        (if wraps { Some(0) } else { to }, buffer)
+    }),
+];
 
 /// Wrong writers print something else.
 #[test]
-fn writes_tell_wrong_writers() {
-    fn with(write: &Write, bytes: Vec<u8>) -> Wrote {
-        let (to, mut buffer) = write.written();
-        if to.is_none() || write.kind == FITS {
-            return (to, buffer);
-        }
-        let at = write.at as usize;
-        buffer[at..].fill(list::FILL);
-        for (place, byte) in buffer[at..].iter_mut().zip(&bytes) {
-            *place = *byte;
-        }
-        (Some(write.at + bytes.len() as u64), buffer)
-    }
-    let wrong: [(&str, fn(&Write) -> Wrote); 6] = [
-        ("high group first", |w| {
-            with(w, w.bytes().into_iter().rev().collect())
-        }),
-        ("a zero byte more", |w| {
-            let mut bytes = w.bytes();
-            *bytes.last_mut().expect("a byte") |= 0x80;
-            bytes.push(0);
-            with(w, bytes)
-        }),
-        ("operands swapped", |w| {
-            let swapped = Write {
-                a: w.b,
-                b: w.a,
-                ..*w
-            };
-            match w.kind {
-                2 | 5 => with(w, swapped.bytes()),
-                _ => w.written(),
-            }
-        }),
-        ("an operand cut to its range", |w| {
-            let cut = Write {
-                a: w.a.min(0xffff),
-                ..*w
-            };
-            match w.kind {
-                1 => with(w, cut.bytes()),
-                _ => w.written(),
-            }
-        }),
-        ("a byte written where it is full", |w| {
-            let (to, mut buffer) = w.written();
-            if let (None, Some(byte)) = (to, buffer.last_mut()) {
-                *byte = 0;
-            }
-            (to, buffer)
-        }),
-        ("the sum made in 64 bits", |w| {
-            match w.at.wrapping_add(w.size()) <= w.length {
-                true if !w.fits() => (Some(0), w.written().1),
-                _ => w.written(),
-            }
-        }),
-    ];
-    let text = |write: fn(&Write) -> Wrote| -> String {
+fn wrong_writers_are_reported() {
+    let text = |writer: Writer| -> String {
         let all = writes::all();
-        all.iter().map(|w| writes::lines(w, &write(w))).collect()
+        all.iter().map(|w| writes::lines(w, &writer(w))).collect()
     };
-    for (name, write) in wrong {
-        assert_ne!(text(write), text(Write::written), "{name}");
+    for (name, writer) in WRONG_WRITERS {
+        assert_ne!(text(writer), text(Write::written), "{name}");
     }
 }

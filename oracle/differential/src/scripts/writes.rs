@@ -98,52 +98,56 @@ pub fn lines(write: &Write, (to, buffer): &(Option<u64>, Vec<u8>)) -> String {
 
 /// The cases. The order is part of the list.
 pub fn all() -> Vec<Write> {
+    [numbers_alone(), commands(), random(), tests()].concat()
+}
+
+fn write(kind: u16, a: u32, b: u32, length: u64, at: u64) -> Write {
+    Write {
+        kind,
+        a,
+        b,
+        length,
+        at,
+    }
+}
+
+/// Numbers about each power of two; then each size of a number at each offset
+/// of a buffer that is about as long.
+fn numbers_alone() -> Vec<Write> {
     let mut all = Vec::new();
-    let mut add = |kind, a, b, length, at| {
-        all.push(Write {
-            kind,
-            a,
-            b,
-            length,
-            at,
-        })
-    };
-    // Numbers about each power of two.
     for power in (0..32).map(|bit| 1 << bit) {
         for value in [power - 1, power, power + 1] {
-            add(0, value, 0, 16, 3);
+            all.push(write(0, value, 0, 16, 3));
         }
     }
-    // Each size of a number at each offset of a buffer that is about as long.
     for value in [0x7f, 0x80, 0x4000, 0x20_0000, 0x1000_0000, u32::MAX] {
         for length in 0..=6 {
             for at in 0..=length + 1 {
-                add(0, value, 0, length, at);
+                all.push(write(0, value, 0, length, at));
             }
         }
     }
-    // Commands, operands in range and above it.
+    all
+}
+
+/// Operands in range and above it.
+fn commands() -> Vec<Write> {
+    let first = [0, 1, 2, 15, 16, 0x7f, 0x80, 0xff9c, 65535, 65536, u32::MAX];
+    let mut all = Vec::new();
     for kind in 1..=7 {
-        for a in [
-            0,
-            1,
-            2,
-            15,
-            16,
-            0x7f,
-            0x80,
-            0xff9c,
-            0xffff,
-            0x1_0000,
-            u32::MAX,
-        ] {
+        for a in first {
             for b in [0, 0xff, u32::MAX] {
-                add(kind, a, b, 20, 1);
+                all.push(write(kind, a, b, 20, 1));
             }
         }
     }
-    // About the buffer's end, and offsets so far that a sum would overflow.
+    all
+}
+
+/// About the buffer's end, and offsets so far that a sum would overflow.
+fn random() -> Vec<Write> {
     let r = &mut Random::new(SEED);
+    let mut all = Vec::new();
     for _ in 0..300 {
         let kind = r.below(8) as u16;
         let [a, b] = [0, 0].map(|_| r.below(u32::MAX) >> r.below(32));
@@ -153,13 +157,19 @@ pub fn all() -> Vec<Write> {
             1 => u64::from(r.below(40)),
             _ => length.saturating_sub(r.below(13).into()),
         };
-        add(kind, a, b, length, at);
+        all.push(write(kind, a, b, length, at));
     }
+    all
+}
+
+/// The test alone, up to the greatest numbers.
+fn tests() -> Vec<Write> {
     let ends = [0, 1, 5, 1 << 32, u64::MAX - 1, u64::MAX];
+    let mut all = Vec::new();
     for length in ends {
         for at in ends {
             for n in ends {
-                add(FITS, n as u32, (n >> 32) as u32, length, at);
+                all.push(write(FITS, n as u32, (n >> 32) as u32, length, at));
             }
         }
     }
