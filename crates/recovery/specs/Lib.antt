@@ -1,4 +1,5 @@
 pub mod Line
 pub mod Recovery
 pub mod Corollaries
+pub mod Layers
 pub mod NearMisses

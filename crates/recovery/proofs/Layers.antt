@@ -1,0 +1,40 @@
+-- Demand 3 carries over to every layer above the port (specs/Layers.antt).
+-- Assumes nothing.
+use mathlib.Core.Path.{_≡_, refl, sym, ap, _∙_, subst}
+use mathlib.Core.List.{List, [], _∷_, _++_}
+use Rattle.sci.specs.declared.Port.{Port}
+use Rattle.sci.specs.Calls.{Call, after, direct, run as port-run}
+use Rattle.sci.specs.Power.{fresh}
+use Rattle.recovery.specs.Corollaries.{Demand, OneList}
+use Rattle.recovery.specs.Layers.{CarriesOver, Layer, calls-made, state-after}
+use Rattle.recovery.specs.Recovery.{Recovers, Wired, run, rest-end, start}
+use Rattle.recovery.proofs.Bridge.{run-is}
+use Rattle.recovery.proofs.Corollaries.{demand, one-list}
+use Rattle.recovery.proofs.Recovery.{recovery}
+
+pub port-run-append : (xs ys : List Call) (p : Port) → port-run p (xs ++ ys) ≡ port-run (port-run p xs) ys
+unfolding port-run
+port-run-append [] ys p = refl
+port-run-append (c ∷ xs) ys p = port-run-append xs ys (after (direct c p))
+
+-- history, rest and words are one list of calls on the fresh port
+port-is : (history rest words : List Call) → port-run fresh (history ++ (rest ++ words)) ≡ run direct (rest-end direct history rest) words .port
+unfolding OneList
+port-is history rest words = run-is (history ++ (rest ++ words)) start ∙ ap (λ (w : Wired). w .port) (one-list direct history rest words)
+
+module _ {S C : Type 0} (l : Layer S C) where
+  pub kept-along : (cs : List C) (s : S) (p : Port) → l .holds s p → l .holds (state-after l s cs) (port-run p (calls-made l s cs))
+  unfolding state-after calls-made port-run
+  kept-along [] s p h = h
+  kept-along (c ∷ cs) s p h =
+      subst (l .holds (state-after l (l .does c s) cs)) (sym (port-run-append (l .calls c s) (calls-made l (l .does c s) cs) p))
+      (kept-along cs (l .does c s) (port-run p (l .calls c s)) (l .kept c s p h))
+
+  pub carries-over : CarriesOver l
+  unfolding CarriesOver Recovers Demand
+  carries-over cs history rest words line e he rs ws =
+      record {
+        recovered = recovery history rest words line he rs ws;
+        sentences = demand history rest words line he rs ws;
+        held = subst (l .holds (state-after l (l .first) cs)) (ap (port-run fresh) e ∙ port-is history rest words) (kept-along cs (l .first) fresh (l .first-held));
+      }
