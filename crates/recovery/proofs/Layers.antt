@@ -22,19 +22,20 @@ port-is : (history rest words : List Call) → port-run fresh (history ++ (rest 
 unfolding OneList
 port-is history rest words = run-is (history ++ (rest ++ words)) start ∙ ap (λ (w : Wired). w .port) (one-list direct history rest words)
 
-module _ {S C : Type 0} (l : Layer S C) where
-  pub kept-along : (cs : List C) (s : S) (p : Port) → l .holds s p → l .holds (state-after l s cs) (port-run p (calls-made l s cs))
+module _ {S C : Type 0} (does : C → S → S) (calls : C → S → List Call) (first : S) (holds : S → Port → Type 0) (l : Layer does calls first holds) where
+  -- the state after any commands holds the port that their calls leave
+  pub held-after : (cs : List C) (s : S) (p : Port) → holds s p → holds (state-after does s cs) (port-run p (calls-made does calls s cs))
   unfolding state-after calls-made port-run
-  kept-along [] s p h = h
-  kept-along (c ∷ cs) s p h =
-      subst (l .holds (state-after l (l .does c s) cs)) (sym (port-run-append (l .calls c s) (calls-made l (l .does c s) cs) p))
-      (kept-along cs (l .does c s) (port-run p (l .calls c s)) (l .kept c s p h))
+  held-after [] s p h = h
+  held-after (c ∷ cs) s p h =
+      subst (holds (state-after does (does c s) cs)) (sym (port-run-append (calls c s) (calls-made does calls (does c s) cs) p))
+      (held-after cs (does c s) (port-run p (calls c s)) (l .kept c s p h))
 
-  pub carries-over : CarriesOver l
+  pub carries-over : CarriesOver does calls first holds
   unfolding CarriesOver Recovers Demand
   carries-over cs history rest words line e he rs ws =
       record {
         recovered = recovery history rest words line he rs ws;
         sentences = demand history rest words line he rs ws;
-        held = subst (l .holds (state-after l (l .first) cs)) (ap (port-run fresh) e ∙ port-is history rest words) (kept-along cs (l .first) fresh (l .first-held));
+        held = subst (holds (state-after does first cs)) (ap (port-run fresh) e ∙ port-is history rest words) (held-after cs first fresh (l .first-held));
       }
