@@ -13,8 +13,8 @@ use Rattle.sci.specs.declared.Port.{Port}
 use Rattle.sci.specs.Calls.{Call, Answer, done, refused, after, direct, run}
 use Rattle.sci.specs.Power.{fresh}
 use Rattle.sci.specs.Valid.{valid}
-use Rattle.laws.specs.Laws.{Accepted-passes, Refused-stands, One-of}
-use Rattle.laws.proofs.Laws.{accepted-passes, refused-stands, passing-not-8}
+use Rattle.laws.specs.Laws.{Accepted-passes, Grown-passes, Refused-stands, One-of}
+use Rattle.laws.proofs.Laws.{accepted-passes, grown-passes, refused-stands, passing-not-8}
 use Rattle.script.specs.declared.Fault.{Fault}
 use Rattle.script.specs.declared.Fault.the-variants.{Short, Number, Kind, Operand}
 use Rattle.script.specs.declared.Command.{Command}
@@ -22,11 +22,10 @@ use Rattle.script.specs.Number.{fault-number}
 use Rattle.script.specs.Items.{Item, call, stop, items}
 use Rattle.branches.proofs.Branches.{by-cond}
 use Rattle.player.specs.Play.{Run, call-of, record-length, record-of, ended, answered, play-items, play}
-use Rattle.recovery.specs.Recovery.{Recovers, Wired, accepted, start, step, run as run-wired}
-use Rattle.recovery.specs.Corollaries.{Demand, OneList}
-use Rattle.recovery.proofs.Recovery.{recovery}
-use Rattle.recovery.proofs.Corollaries.{demand, one-list}
-use Rattle.runs.specs.Runs.{commands, calls, value, records, AllAccepted, played, IsItsCalls, RunsAreCalls, EightAtEntryOnly, ScriptsRecover}
+use Rattle.recovery.specs.Layers.{Layer}
+use Rattle.recovery.specs.Recovery.{accepted}
+use Rattle.recovery.proofs.Layers.{carries-over, held-after}
+use Rattle.runs.specs.Runs.{Action, ActionsAreCalls, AllAccepted, EightAtEntryOnly, IsItsCalls, RunsAreCalls, ScriptsRecover, all-calls, calls, commands, counts-as, leaves, makes-call, played, plays-script, port-after, records, value}
 
 -- ---- a run is its commands' direct calls
 
@@ -134,27 +133,24 @@ pub eight-at-entry-only : EightAtEntryOnly
 unfolding play
 eight-at-entry-only p s log h = rw h (items-not-8 p (items s 0) log h)
 
+-- ---- scripts after scripts
+
+layer : Layer leaves counts-as fresh (λ q p. q ≡ p)
+unfolding run
+layer = record { first-held = refl; kept = kept }
+  where
+    kept : (a : Action) (q p : Port) → q ≡ p → leaves a q ≡ run p (counts-as a q)
+    kept (makes-call c) q p e = ap (λ (x : Port). after (direct c x)) e
+    kept (plays-script s log) q p e = runs-are-calls q s log .port ∙ ap (λ (x : Port). run x (calls (played s (play q s log)))) e
+
+pub actions-are-calls : ActionsAreCalls
+unfolding Grown-passes
+actions-are-calls acts =
+    let same : port-after acts ≡ run fresh (all-calls acts) = held-after leaves counts-as fresh (λ q p. q ≡ p) layer acts fresh fresh refl in
+    let test : valid (port-after acts) ≡ true = ap valid same ∙ grown-passes (all-calls acts) in
+    record { port = same; passes = test; never-by-8 = λ s log. eight-at-entry-only (port-after acts) s log test }
+
 -- ---- demand 3
 
-calls-append : (xs ys : List Command) → calls (xs ++ ys) ≡ calls xs ++ calls ys
-calls-append [] ys = refl
-calls-append (c ∷ xs) ys = ap (λ (l : List Call). call-of c ∷ l) (calls-append xs ys)
-
--- the line that the callers set is no part of the port
-wired-port : (s : Wired) (cs : List Call) → run-wired direct s cs .port ≡ run (s .port) cs
-unfolding run run-wired
-wired-port s [] = refl
-wired-port s (c ∷ cs) = wired-port (step c (direct c (s .port)) s) cs
-
 pub scripts-recover : ScriptsRecover
-unfolding Recovers Demand OneList
-scripts-recover s log history rest words line e he rs ws =
-    let same : calls (history ++ (rest ++ words)) ≡ calls history ++ (calls rest ++ calls words) = calls-append history (rest ++ words) ∙ ap (λ (l : List Call). calls history ++ l) (calls-append rest words) in (
-      recovery (calls history) (calls rest) (calls words) line he rs ws,
-      (
-        demand (calls history) (calls rest) (calls words) line he rs ws,
-        runs-are-calls fresh s log .port ∙ ap (λ (l : List Command). run fresh (calls l)) e ∙ ap (run fresh) same
-            ∙ sym (wired-port start (calls history ++ (calls rest ++ calls words)))
-            ∙ ap (λ (w : Wired). w .port) (one-list direct (calls history) (calls rest) (calls words)),
-      ),
-    )
+scripts-recover = carries-over leaves counts-as fresh (λ q p. q ≡ p) layer

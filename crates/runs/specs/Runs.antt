@@ -1,7 +1,7 @@
 -- What holds of every run of a script. A run is its commands' direct calls, each on the port that the one before left, and its log their records; the
--- test 8 at entry is the only one that can refuse by 8; and what the recovery theorem says of lists of direct calls holds of scripts (document 01,
--- "Healing": "Once the player is there, a script counts as its commands' calls").
--- Proved in proofs/Runs.antt; proofs/Example.antt has a script with a noisy history that meets all that demand 3 asks.
+-- test 8 at entry is the only one that can refuse by 8; and what the recovery theorem says of lists of direct calls holds of lists of direct calls and
+-- scripts (document 01, "Healing": "Once the player is there, a script counts as its commands' calls").
+-- Proved in proofs/Runs.antt; proofs/Example.antt has a list with a noisy history that meets all that demand 3 asks.
 -- Assumes nothing.
 use mathlib.Core.Path.{_≡_}
 use Prim.Native.Nat.{ℕ, _*_, _/_}
@@ -15,9 +15,8 @@ use Rattle.sci.specs.Valid.{valid}
 use Rattle.script.specs.declared.Command.{Command}
 use Rattle.script.specs.Items.{Item, call, stop, items}
 use Rattle.player.specs.Play.{Run, call-of, record-length, record-of, play}
-use Rattle.recovery.specs.Line.{Item as OnLine}
-use Rattle.recovery.specs.Recovery.{HistoryEnd, Recovered, Rest, Words, accepted, rest-end, start, trace, run as run-wired}
-use Rattle.recovery.specs.Corollaries.{Sentences}
+use Rattle.recovery.specs.Layers.{CarriesOver, calls-made, state-after}
+use Rattle.recovery.specs.Recovery.{accepted}
 
 -- ---- a run is its commands' direct calls
 -- the commands of a script, up to where reading stops
@@ -66,14 +65,41 @@ RunsAreCalls = (p : Port) (s log : List ℕ) → IsItsCalls p s log (play p s lo
 abbrev pub EightAtEntryOnly : Type 0
 EightAtEntryOnly = (p : Port) (s log : List ℕ) → valid p ≡ true → play p s log .number ≡ 8 → ⊥
 
+-- ---- scripts after scripts
+-- what is done with a port: a direct call is made, or a whole script (its bytes, and the log that is lent) is played
+pub data Action : Type 0 where
+  makes-call : Call → Action
+  plays-script : List ℕ → List ℕ → Action
+
+-- the port that an action leaves, be it accepted or refused
+abbrev pub leaves : Action → Port → Port
+leaves (makes-call c) p = after (direct c p)
+leaves (plays-script s log) p = play p s log .port
+
+-- "a script counts as its commands' calls": those that were played, up to the one that was refused
+abbrev pub counts-as : Action → Port → List Call
+counts-as (makes-call c) p = c ∷ []
+counts-as (plays-script s log) p = calls (played s (play p s log))
+
+-- actions made one after the other on a fresh port, each on the port that the one before left: the port after them, and their calls
+abbrev pub port-after : List Action → Port
+port-after = state-after leaves fresh
+
+abbrev pub all-calls : List Action → List Call
+all-calls = calls-made leaves counts-as fresh
+
+-- after any actions the port is the one that their calls leave, and it passes the field test: so a script that is played next is never refused by 8
+-- (and by `RunsAreCalls` it is its calls, and its log their records)
+pub record AfterActions (acts : List Action) : Type 0 where
+  pub port : port-after acts ≡ run fresh (all-calls acts)
+  pub passes : valid (port-after acts) ≡ true
+  pub never-by-8 : (s log : List ℕ) → play (port-after acts) s log .number ≡ 8 → ⊥
+
+abbrev pub ActionsAreCalls : Type 0
+ActionsAreCalls = (acts : List Action) → AfterActions acts
+
 -- ---- demand 3
--- a script whose played commands are history, rest and words recovers: what the theorem (recovery's Recovery.antt) says of these calls, the demand's
--- sentences (Corollaries.antt), and that the run ends in the port that they are about
+-- actions whose calls are history, rest and words recover: `Recovered` and the demand's sentences hold of these calls, and the port after the actions is
+-- the one that they are about. Where history and rest end is free: between two actions, or inside a script (recovery's Layers.antt)
 abbrev pub ScriptsRecover : Type 0
-ScriptsRecover =
-    (s log : List ℕ) (history rest words : List Command) (line : List OnLine) → played s (play fresh s log) ≡ history ++ (rest ++ words)
-    → HistoryEnd (run-wired direct start (calls history)) → Rest direct (run-wired direct start (calls history)) (calls rest)
-    → Words direct (rest-end direct (calls history) (calls rest)) (calls words) line
-    → Recovered direct (calls history) (calls rest) (calls words) line
-    × (Sentences (rest-end direct (calls history) (calls rest) .port) line (trace direct (rest-end direct (calls history) (calls rest)) (calls words))
-    × (play fresh s log .port ≡ run-wired direct (rest-end direct (calls history) (calls rest)) (calls words) .port))
+ScriptsRecover = CarriesOver leaves counts-as fresh (λ q p. q ≡ p)
