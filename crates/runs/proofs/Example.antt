@@ -20,7 +20,7 @@ use Rattle.recovery.specs.Layers.{Carried, CarriesOver, calls-made, state-after
 use Rattle.recovery.specs.Recovery.{completed, levels, run, trace, wait-trace}
 use Rattle.recovery.proofs.Compute.{count-halves, Met, all-may, are-separated, asked-of, history-meets, is-prefix, may-read, may-rest, meets, met, rest-meets, was-read, words-meet}
 use Rattle.recovery.proofs.Computes.{computes}
-use Rattle.runs.specs.Runs.{Action, all-calls, calls, counts-as, leaves, makes-call, plays-script}
+use Rattle.runs.specs.Runs.{Action, all-calls, calls, counts-as, leaves, makes-call, plays-script, port-after}
 use Rattle.runs.proofs.Runs.{scripts-recover}
 
 -- a word begins
@@ -89,3 +89,8 @@ follows = scripts-recover actions history rest words on-line these (noisy .ended
 refused-7 : play fresh (script noise ++ (8 ∷ [])) log .number ≡ 7
 unfolding computed log play play-items transmit-level interrupt
 refused-7 = refl
+
+-- the port received both words, one from each of the last two scripts
+received-2 : port-after actions .received ≡ 2
+unfolding these
+received-2 = refl
