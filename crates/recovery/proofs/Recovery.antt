@@ -17,6 +17,7 @@ use Rattle.recovery.proofs.LineFold.{lined-start}
 use Rattle.recovery.proofs.Once.{once-each}
 use Rattle.recovery.proofs.Reached.{near-fresh}
 use Rattle.recovery.proofs.RestCalls.{Asked, all-hold, first-holds}
+use Rattle.recovery.proofs.WordCalls.{separately}
 
 pub grown-start : Grown start
 unfolding Fresh-passes
@@ -38,7 +39,6 @@ asked h rest words items g he rs ws =
       no-clocked-word = rs .no-clocked-word;
       reading = words-calls words r (ws .calls);
       signals = subst (λ (ms : List Moment). prefix (levels ms) (signal (format-of (r .port)) items)) (trace-is words r (grown-run rest h g)) (ws .line);
-      apart = subst (separated none-yet) (trace-is words r (grown-run rest h g)) (ws .reads);
     }
 
 -- demand 3
@@ -51,7 +51,8 @@ recovery history rest words items he rs ws =
     let gr : Grown r = grown-run rest h gh in
     let a : Asked (h .port) (r .port) rest words items = asked h rest words items gh he rs ws in
     let ms : throughout (r .port) items none-yet (trace direct r words)
-    = subst (throughout (r .port) items none-yet) (sym (trace-is words r gr)) (all-hold (h .port) (r .port) rest words items (gh .near) a) in
+    = subst (throughout (r .port) items none-yet) (sym (trace-is words r gr))
+    (all-hold (h .port) (r .port) rest words items (gh .near) a separated (separately (r .port) items) (subst (separated none-yet) (trace-is words r gr) (ws .reads))) in
     record {
       tested = never-by-8 (history ++ (rest ++ words)) start grown-start;
       at-first = first-holds (h .port) (r .port) rest words items (gh .near) a;

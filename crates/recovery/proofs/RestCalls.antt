@@ -33,8 +33,8 @@ use Rattle.sci.specs.Sender.{try-start}
 use Rattle.sci.specs.Valid.{limit, valid}
 use Rattle.branches.proofs.Branches.{by-cond}
 use Rattle.sci.proofs.CallLaws.{internal-external}
-use Rattle.recovery.specs.Line.{Event, Item, half-passes, none-yet, other, prefix, rdr-read, signal}
-use Rattle.recovery.specs.Recovery.{Holds, Moment, allowed-in-words, level-of, levels, one-moment, separated, throughout}
+use Rattle.recovery.specs.Line.{Count, Event, Item, half-passes, none-yet, other, prefix, rdr-read, signal}
+use Rattle.recovery.specs.Recovery.{Holds, Moment, allowed-in-words, level-of, levels, one-moment, throughout}
 use Rattle.recovery.proofs.Bounds.{Fits, advance-quiet, by-clock, format-sound}
 use Rattle.recovery.proofs.Halfwise.{each-call, half-moments, moments, moments-of, none-refused, rests}
 use Rattle.recovery.proofs.Halves.{Core, Plain, complete-rx, core, core-arm, core-half, early-basic, view-half}
@@ -42,7 +42,7 @@ use Rattle.recovery.proofs.Project.{view, view-arm, view-load-tail, vie
 use Rattle.recovery.proofs.Reached.{Near, near-called}
 use Rattle.recovery.proofs.Rest.{Calm, arm-at-mark, basic-calm, calm-fits, calm-over, clocked, ending, fits-calm, none}
 use Rattle.recovery.proofs.View.{View, state, v-arm, v-basic, v-count, v-half}
-use Rattle.recovery.proofs.WordCalls.{no-edge, to-holds, words-along}
+use Rattle.recovery.proofs.WordCalls.{Reading, no-edge, to-holds, words-along}
 use Rattle.recovery.proofs.Words.{Where, start-where}
 
 -- ---- the clocked edge, with no start-stop word in the receiver
@@ -337,7 +337,6 @@ pub record Asked (h r : Port) (rest words : List Call) (items : List Item) : Typ
   pub no-clocked-word : rx-clocked (r .rx) ≡ false
   pub reading : each-call (λ c a q. allowed-in-words c a) r words
   pub signals : prefix (levels (moments r words)) (signal (format-of r) items)
-  pub apart : separated none-yet (moments r words)
 
 module _ (h r : Port) (rest words : List Call) (items : List Item) (t : Near h) (a : Asked h r rest words items) where
   begin : Resting 384 h
@@ -358,6 +357,7 @@ module _ (h r : Port) (rest words : List Call) (items : List Item) (t : Near h) 
   pub first-holds : Holds r items none-yet (record { event = other; port = r })
   first-holds = to-holds r items (end .plain) none-yet (levels (moments r words)) r other at-start tt
 
-  -- and at every moment of the words
-  pub all-hold : throughout r items none-yet (moments r words)
-  all-hold = words-along r items (end .plain) words r none-yet (calm-fits (end .calm)) at-start (a .apart) (a .reading)
+  -- and at every moment of the words, where each completion finds RDR read
+  pub all-hold : (Apart : Count → List Moment → Type 0) → ((plain : format-of r .synchronous ≡ false) → Reading r items plain Apart) → Apart none-yet (moments r words)
+      → throughout r items none-yet (moments r words)
+  all-hold Apart known s = words-along r items (end .plain) Apart (known (end .plain)) words r none-yet (calm-fits (end .calm)) at-start s (a .reading)

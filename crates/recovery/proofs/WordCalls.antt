@@ -102,127 +102,142 @@ module _ (start : Port) (items : List Item) (plain : format-of start .synchronou
       just-rdrf true = refl
       just-rdrf false = refl
 
-  -- ---- halves
+  -- ---- what is known of the moments to come: that each completion finds RDR read
+  abbrev half-moment : Port → Moment
+  half-moment p = record { event = half-passes (input-level p) (completes p); port = half-step p }
+
+  -- `Apart c ms` is known of the moments ms after the count c: it says so of the next half, and goes on from moment to moment
+  pub record Reading (Apart : Count → List Moment → Type 0) : Type 0 where
+    pub now : (c : Count) (p : Port) (ms : List Moment) → Here c (levels (half-moment p ∷ ms)) p → Apart c (half-moment p ∷ ms) → completes p ≡ true → c .unread ≡ false
+    pub later : (c : Count) (m : Moment) (ms : List Moment) → Holds start items (count-after c (m .event)) m → Apart c (m ∷ ms) → Apart (count-after c (m .event)) ms
+
   read-first : (m b : Bool) (c : Count) → read-before (half-passes m b) c → b ≡ true → c .unread ≡ false
   read-first m true c t e = t
   read-first m false c t e = absurd (false≢true e)
 
-  one-half : (c : Count) (ls : List Bool) (p : Port) → Near p → read-before (half-passes (input-level p) (completes p)) c → Here c (input-level p ∷ ls) p
+  pub separately : Reading separated
+  separately = record { now = λ c p ms w s. read-first (input-level p) (completes p) c (s .0); later = λ c m ms h s. s .1 }
+
+  -- ---- halves
+  one-half : (c : Count) (ls : List Bool) (p : Port) → Near p → (completes p ≡ true → c .unread ≡ false) → Here c (input-level p ∷ ls) p
       → Here (count-after c (half-passes (input-level p) (completes p))) ls (half-step p)
   unfolding completing
   one-half c ls p t u w =
       let s = where-stands (format-of start) items (start .received) plain long st c (input-level p ∷ ls) (view p) w in
       subst (Where (format-of start) items (start .received) (count-after c (half-passes (input-level p) (completes p))) ls)
       (sym (view-half p t (ap (λ (g : Format). g .synchronous) (s .fmt) ∙ plain) (s .plain-rx)))
-      (half-kept (format-of start) items (start .received) plain long st c ls (view p) (read-first (input-level p) (completes p) c u) w)
+      (half-kept (format-of start) items (start .received) plain long st c ls (view p) u w)
 
-  halves-along : (n : ℕ) (p : Port) (c : Count) (ms : List Moment) → Near p → Here c (levels (half-moments n p ++ ms)) p → separated c (half-moments n p ++ ms)
-      → ((c : Count) → Near (halves n p) → Here c (levels ms) (halves n p) → separated c ms → throughout start items c ms)
-      → throughout start items c (half-moments n p ++ ms)
-  unfolding half-moments halves levels
-  halves-along zero p c ms t w s k = k c t w s
-  halves-along (suc n) p c ms t w s k =
-      let c′ : Count = count-after c (half-passes (input-level p) (completes p)) in
-      let w′ : Here c′ (levels (half-moments n (half-step p) ++ ms)) (half-step p) = one-half c (levels (half-moments n (half-step p) ++ ms)) p t (s .0) w in (
-        to-holds c′ (levels (half-moments n (half-step p) ++ ms)) (half-step p) (half-passes (input-level p) (completes p)) w′ tt,
-        halves-along n (half-step p) c′ ms (near-half p t) w′ (s .1) k,
-      )
+  module _ (Apart : Count → List Moment → Type 0) (known : Reading Apart) where
+    halves-along : (n : ℕ) (p : Port) (c : Count) (ms : List Moment) → Near p → Here c (levels (half-moments n p ++ ms)) p → Apart c (half-moments n p ++ ms)
+        → ((c : Count) → Near (halves n p) → Here c (levels ms) (halves n p) → Apart c ms → throughout start items c ms)
+        → throughout start items c (half-moments n p ++ ms)
+    unfolding half-moments halves levels
+    halves-along zero p c ms t w s k = k c t w s
+    halves-along (suc n) p c ms t w s k =
+        let c′ : Count = count-after c (half-passes (input-level p) (completes p)) in
+        let w′ : Here c′ (levels (half-moments n (half-step p) ++ ms)) (half-step p)
+        = one-half c (levels (half-moments n (half-step p) ++ ms)) p t (known .now c p (half-moments n (half-step p) ++ ms) w s) w in
+        let h : Holds start items c′ (half-moment p) = to-holds c′ (levels (half-moments n (half-step p) ++ ms)) (half-step p) (half-passes (input-level p) (completes p)) w′ tt in
+        (h, halves-along n (half-step p) c′ ms (near-half p t) w′ (known .later c (half-moment p) (half-moments n (half-step p) ++ ms) h s) k)
 
-  -- ---- one call, with what follows it
-  module _ (p : Port) (c : Count) (ms : List Moment) (t : Near p) where
-    abbrev Along : Call → Answer → Type 0
-    Along x r =
-        Here c (levels (moments-of x r p ++ ms)) p → separated c (moments-of x r p ++ ms) → allowed-in-words x r
-        → ((c : Count) → Near (after r) → Here c (levels ms) (after r) → separated c ms → throughout start items c ms)
-        → throughout start items c (moments-of x r p ++ ms)
+    -- ---- one call, with what follows it
+    module _ (p : Port) (c : Count) (ms : List Moment) (t : Near p) where
+      abbrev Along : Call → Answer → Type 0
+      Along x r =
+          Here c (levels (moments-of x r p ++ ms)) p → Apart c (moments-of x r p ++ ms) → allowed-in-words x r
+          → ((c : Count) → Near (after r) → Here c (levels ms) (after r) → Apart c ms → throughout start items c ms)
+          → throughout start items c (moments-of x r p ++ ms)
 
-    along-refused : (x : Call) (n : ℕ) → Along x (refuse n p)
-    along-refused x n = rw (none-refused x n 0 p p) (λ w s q k. k c t w s)
+      along-refused : (x : Call) (n : ℕ) → Along x (refuse n p)
+      along-refused x n = rw (none-refused x n 0 p p) (λ w s q k. k c t w s)
 
-    -- a call that is no moment of the receiver's
-    along-other : (q : Port) → Near q → Here c (levels ms) q → separated c (one-moment (λ u. other) (done 0 q) ++ ms)
-        → ((c : Count) → Near q → Here c (levels ms) q → separated c ms → throughout start items c ms) → throughout start items c (one-moment (λ u. other) (done 0 q) ++ ms)
-    along-other q n w s k = (to-holds c (levels ms) q other w tt, k c n w (s .1))
+      -- a call that is no moment of the receiver's
+      along-other : (q : Port) → Near q → Here c (levels ms) q → Apart c (one-moment (λ u. other) (done 0 q) ++ ms)
+          → ((c : Count) → Near q → Here c (levels ms) q → Apart c ms → throughout start items c ms) → throughout start items c (one-moment (λ u. other) (done 0 q) ++ ms)
+      along-other q n w s k =
+          let h : Holds start items c (record { event = other; port = q }) = to-holds c (levels ms) q other w tt in
+          (h, k c n w (known .later c (record { event = other; port = q }) ms h s))
 
-    runs-here : (ls : List Bool) → Here c ls p → internal p ≡ true
-    runs-here ls w = where-stands (format-of start) items (start .received) plain long st c ls (view p) w .runs
+      runs-here : (ls : List Bool) → Here c ls p → internal p ≡ true
+      runs-here ls w = where-stands (format-of start) items (start .received) plain long st c ls (view p) w .runs
 
-    along-rdr : Along (reads 0xff9d) (done (peek p 0xff9d) (read 0xff9d p))
-    unfolding levels peek
-    along-rdr w s q k =
-        let c′ : Count = count-after c (rdr-read (p .rdr)) in
-        let w′ : Here c′ (levels ms) (read 0xff9d p)
-        = subst (Where (format-of start) items (start .received) c′ (levels ms)) (sym (view-read p)) (read-keeps (format-of start) items (start .received) plain long st c (levels ms) (view p) (p .rdr) w) in (
-          to-holds c′ (levels ms) (read 0xff9d p) (rdr-read (p .rdr)) w′ (shown (format-of start) items (start .received) plain long st c (levels ms) (view p) w .rdr),
-          k c′ (near-read 0xff9d p t) w′ (s .1),
-        )
+      along-rdr : Along (reads 0xff9d) (done (peek p 0xff9d) (read 0xff9d p))
+      unfolding levels peek
+      along-rdr w s q k =
+          let c′ : Count = count-after c (rdr-read (p .rdr)) in
+          let w′ : Here c′ (levels ms) (read 0xff9d p)
+          = subst (Where (format-of start) items (start .received) c′ (levels ms)) (sym (view-read p)) (read-keeps (format-of start) items (start .received) plain long st c (levels ms) (view p) (p .rdr) w) in
+          let h : Holds start items c′ (record { event = rdr-read (p .rdr); port = read 0xff9d p })
+          = to-holds c′ (levels ms) (read 0xff9d p) (rdr-read (p .rdr)) w′ (shown (format-of start) items (start .received) plain long st c (levels ms) (view p) w .rdr) in
+          (h, k c′ (near-read 0xff9d p t) w′ (known .later c (record { event = rdr-read (p .rdr); port = read 0xff9d p }) ms h s))
 
-    along-reads : (a : ℕ) (b : Bool) → eqb a 0xff9d ≡ b → Along (reads a) (done (peek p a) (read a p))
-    unfolding levels
-    along-reads a true e = subst (λ (x : ℕ). Along (reads x) (done (peek p x) (read x p))) (sym (eqb-true a 0xff9d e)) along-rdr
-    along-reads a false e =
-        rw e (λ w s q k.
-        along-other (read a p) (near-read a p t) (subst (Where (format-of start) items (start .received) c (levels ms)) (sym (view-read-other a p e)) w) s k)
+      along-reads : (a : ℕ) (b : Bool) → eqb a 0xff9d ≡ b → Along (reads a) (done (peek p a) (read a p))
+      unfolding levels
+      along-reads a true e = subst (λ (x : ℕ). Along (reads x) (done (peek p x) (read x p))) (sym (eqb-true a 0xff9d e)) along-rdr
+      along-reads a false e =
+          rw e (λ w s q k.
+          along-other (read a p) (near-read a p t) (subst (Where (format-of start) items (start .received) c (levels ms)) (sym (view-read-other a p e)) w) s k)
 
-    passes : (n : ℕ) (b : Bool) → b ≡ true → Here c (levels (cond b (half-moments n p) (one-moment (λ u. other) (done 0 (halves n p))) ++ ms)) p
-        → separated c (cond b (half-moments n p) (one-moment (λ u. other) (done 0 (halves n p))) ++ ms)
-        → ((c : Count) → Near (halves n p) → Here c (levels ms) (halves n p) → separated c ms → throughout start items c ms)
-        → throughout start items c (cond b (half-moments n p) (one-moment (λ u. other) (done 0 (halves n p))) ++ ms)
-    passes n true e w s k = halves-along n p c ms t w s k
-    passes n false e w s k = absurd (false≢true e)
+      passes : (n : ℕ) (b : Bool) → b ≡ true → Here c (levels (cond b (half-moments n p) (one-moment (λ u. other) (done 0 (halves n p))) ++ ms)) p
+          → Apart c (cond b (half-moments n p) (one-moment (λ u. other) (done 0 (halves n p))) ++ ms)
+          → ((c : Count) → Near (halves n p) → Here c (levels ms) (halves n p) → Apart c ms → throughout start items c ms)
+          → throughout start items c (cond b (half-moments n p) (one-moment (λ u. other) (done 0 (halves n p))) ++ ms)
+      passes n true e w s k = halves-along n p c ms t w s k
+      passes n false e w s k = absurd (false≢true e)
 
-    along-lets-pass : (n : ℕ) → Along (lets-pass n) (called (lets-pass n) p)
-    unfolding called
-    along-lets-pass n =
-        by-cond (Along (lets-pass n)) (leb n 65535) _ (refuse 2 p)
-        (λ e. by-cond (Along (lets-pass n)) (internal p) _ (done 0 (uncounted n p))
-        (λ i. by-cond (Along (lets-pass n)) (leb (p .half + n) limit) (done 0 (halves n p)) (refuse 4 p) (λ g w s q k. passes n (internal p) i w s k) (λ g. along-refused (lets-pass n) 4))
-        (λ i w s q k. absurd (true≢false (sym (runs-here (levels (moments-of (lets-pass n) (done 0 (uncounted n p)) p ++ ms)) w) ∙ i))))
-        (λ e. along-refused (lets-pass n) 2)
+      along-lets-pass : (n : ℕ) → Along (lets-pass n) (called (lets-pass n) p)
+      unfolding called
+      along-lets-pass n =
+          by-cond (Along (lets-pass n)) (leb n 65535) _ (refuse 2 p)
+          (λ e. by-cond (Along (lets-pass n)) (internal p) _ (done 0 (uncounted n p))
+          (λ i. by-cond (Along (lets-pass n)) (leb (p .half + n) limit) (done 0 (halves n p)) (refuse 4 p) (λ g w s q k. passes n (internal p) i w s k) (λ g. along-refused (lets-pass n) 4))
+          (λ i w s q k. absurd (true≢false (sym (runs-here (levels (moments-of (lets-pass n) (done 0 (uncounted n p)) p ++ ms)) w) ∙ i))))
+          (λ e. along-refused (lets-pass n) 2)
 
-    line-here : (b : Bool) → Here c (levels ms) p → Here c (levels ms) (receive-input b p)
-    line-here b w =
-        by-line (Where (format-of start) items (start .received) c (levels ms)) b p w
-        (line-keeps (format-of start) items (start .received) plain long st c (levels ms) (view p) (differ b (has (p .spcr) 1)) w)
+      line-here : (b : Bool) → Here c (levels ms) p → Here c (levels ms) (receive-input b p)
+      line-here b w =
+          by-line (Where (format-of start) items (start .received) c (levels ms)) b p w
+          (line-keeps (format-of start) items (start .received) plain long st c (levels ms) (view p) (differ b (has (p .spcr) 1)) w)
 
-    pins-here : (d b : Bool) → Here c (levels ms) p → Here c (levels ms) (input-pins d b p)
-    pins-here d b w =
-        by-pins (Where (format-of start) items (start .received) c (levels ms)) d b p w (line-here b w)
-        (where-stands (format-of start) items (start .received) plain long st c (levels ms) (view (receive-input b p)) (line-here b w) .runs)
+      pins-here : (d b : Bool) → Here c (levels ms) p → Here c (levels ms) (input-pins d b p)
+      pins-here d b w =
+          by-pins (Where (format-of start) items (start .received) c (levels ms)) d b p w (line-here b w)
+          (where-stands (format-of start) items (start .received) plain long st c (levels ms) (view (receive-input b p)) (line-here b w) .runs)
 
-    along : (x : Call) → Along x (called x p)
-    unfolding called levels
-    along (reads a) =
-        by-cond (Along (reads a)) (leb a 65535) _ (refuse 2 p)
-        (λ e. by-cond (Along (reads a)) (handles a) _ (refuse 1 p) (λ g. along-reads a (eqb a 0xff9d) refl) (λ g. along-refused (reads a) 1)) (λ e. along-refused (reads a) 2)
-    along (writes a v) =
-        by-cond (Along (writes a v)) (leb a 65535 && leb v 255) _ (refuse 2 p)
-        (λ e. by-cond (Along (writes a v)) (handles a) _ (refuse 1 p)
-        (λ g. by-cond (Along (writes a v)) (eqb a 0xffa7 && leb 128 v) (refuse 3 p) (done 0 (write a v p)) (λ h. along-refused (writes a v) 3) (λ h w s q k. absurd (true≢false q)))
-        (λ g. along-refused (writes a v) 1))
-        (λ e. along-refused (writes a v) 2)
-    along (lets-pass n) = along-lets-pass n
-    along (sets-line b) =
-        by-cond (Along (sets-line b)) (leb b 1) (done 0 (receive-input (bit b) p)) (refuse 2 p)
-        (λ e w s q k. along-other (receive-input (bit b) p) (near-line (bit b) p t) (line-here (bit b) w) s k) (λ e. along-refused (sets-line b) 2)
-    along (sets-pins d b) =
-        by-cond (Along (sets-pins d b)) (leb d 1 && leb b 1) _ (refuse 2 p)
-        (λ e. by-cond (Along (sets-pins d b)) ((differ (bit b) (p .input) || differ (bit d) (p .«input_clock»)) && (edge-counts (bit d) p && leb limit (p .half))) (refuse 4 p) (done 0 (input-pins (bit d) (bit b) p))
-        (λ g. along-refused (sets-pins d b) 4)
-        (λ g w s q k. along-other (input-pins (bit d) (bit b) p) (near-pins (bit d) (bit b) p t) (pins-here (bit d) (bit b) w) s k))
-        (λ e. along-refused (sets-pins d b) 2)
-    along (sets-power b) =
-        by-cond (Along (sets-power b)) (leb b 15) (done 0 (set-power (has b 1) (has b 2) (has b 4) (has b 8) p)) (refuse 2 p) (λ e w s q k. absurd (true≢false q)) (λ e. along-refused (sets-power b) 2)
-    along passes-inside = λ w s q k. along-other (inside p) t w s k
+      along : (x : Call) → Along x (called x p)
+      unfolding called levels
+      along (reads a) =
+          by-cond (Along (reads a)) (leb a 65535) _ (refuse 2 p)
+          (λ e. by-cond (Along (reads a)) (handles a) _ (refuse 1 p) (λ g. along-reads a (eqb a 0xff9d) refl) (λ g. along-refused (reads a) 1)) (λ e. along-refused (reads a) 2)
+      along (writes a v) =
+          by-cond (Along (writes a v)) (leb a 65535 && leb v 255) _ (refuse 2 p)
+          (λ e. by-cond (Along (writes a v)) (handles a) _ (refuse 1 p)
+          (λ g. by-cond (Along (writes a v)) (eqb a 0xffa7 && leb 128 v) (refuse 3 p) (done 0 (write a v p)) (λ h. along-refused (writes a v) 3) (λ h w s q k. absurd (true≢false q)))
+          (λ g. along-refused (writes a v) 1))
+          (λ e. along-refused (writes a v) 2)
+      along (lets-pass n) = along-lets-pass n
+      along (sets-line b) =
+          by-cond (Along (sets-line b)) (leb b 1) (done 0 (receive-input (bit b) p)) (refuse 2 p)
+          (λ e w s q k. along-other (receive-input (bit b) p) (near-line (bit b) p t) (line-here (bit b) w) s k) (λ e. along-refused (sets-line b) 2)
+      along (sets-pins d b) =
+          by-cond (Along (sets-pins d b)) (leb d 1 && leb b 1) _ (refuse 2 p)
+          (λ e. by-cond (Along (sets-pins d b)) ((differ (bit b) (p .input) || differ (bit d) (p .«input_clock»)) && (edge-counts (bit d) p && leb limit (p .half))) (refuse 4 p) (done 0 (input-pins (bit d) (bit b) p))
+          (λ g. along-refused (sets-pins d b) 4)
+          (λ g w s q k. along-other (input-pins (bit d) (bit b) p) (near-pins (bit d) (bit b) p t) (pins-here (bit d) (bit b) w) s k))
+          (λ e. along-refused (sets-pins d b) 2)
+      along (sets-power b) =
+          by-cond (Along (sets-power b)) (leb b 15) (done 0 (set-power (has b 1) (has b 2) (has b 4) (has b 8) p)) (refuse 2 p) (λ e w s q k. absurd (true≢false q)) (λ e. along-refused (sets-power b) 2)
+      along passes-inside = λ w s q k. along-other (inside p) t w s k
 
-    along-direct : (x : Call) → Along x (direct x p)
-    unfolding direct
-    along-direct x = by-cond (Along x) (valid p) (called x p) (refuse 8 p) (λ e. along x) (λ e. along-refused x 8)
+      along-direct : (x : Call) → Along x (direct x p)
+      unfolding direct
+      along-direct x = by-cond (Along x) (valid p) (called x p) (refuse 8 p) (λ e. along x) (λ e. along-refused x 8)
 
-  pub words-along : (cs : List Call) (p : Port) (c : Count) → Near p → Here c (levels (moments p cs)) p → separated c (moments p cs) → each-call (λ c a q. allowed-in-words c a) p cs
-      → throughout start items c (moments p cs)
-  unfolding moments
-  words-along [] p c t w s q = tt
-  words-along (x ∷ cs) p c t w s q =
-      along-direct p c (moments (after (direct x p)) cs) t x w s (q .0)
-      (λ c′ t′ w′ s′. words-along cs (after (direct x p)) c′ t′ w′ s′ (q .1))
+    pub words-along : (cs : List Call) (p : Port) (c : Count) → Near p → Here c (levels (moments p cs)) p → Apart c (moments p cs) → each-call (λ c a q. allowed-in-words c a) p cs
+        → throughout start items c (moments p cs)
+    unfolding moments
+    words-along [] p c t w s q = tt
+    words-along (x ∷ cs) p c t w s q =
+        along-direct p c (moments (after (direct x p)) cs) t x w s (q .0)
+        (λ c′ t′ w′ s′. words-along cs (after (direct x p)) c′ t′ w′ s′ (q .1))
