@@ -11,7 +11,7 @@ use Rattle.sci.specs.Calls.{Call, direct}
 use Rattle.laws.proofs.Laws.{fresh-passes}
 use Rattle.laws.specs.Laws.{Fresh-passes}
 use Rattle.recovery.specs.Line.{Item, none-yet, prefix, signal}
-use Rattle.recovery.specs.Recovery.{HistoryEnd, Moment, Recovers, Rest, Wired, Words, levels, run, separated, start, throughout, trace}
+use Rattle.recovery.specs.Recovery.{HistoryEnd, Moment, Recovers, Rest, Wired, Words, allowed-in-words, each, levels, run, separated, start, throughout, trace}
 use Rattle.recovery.proofs.Bridge.{Grown, grown-run, never-by-8, rest-calls, run-is, trace-is, words-calls}
 use Rattle.recovery.proofs.LineFold.{lined-start}
 use Rattle.recovery.proofs.Once.{once-each}
@@ -23,9 +23,10 @@ pub grown-start : Grown start
 unfolding Fresh-passes
 grown-start = record { lined = lined-start; tested = fresh-passes; near = near-fresh }
 
-asked : (h : Wired) (rest words : List Call) (items : List Item) → Grown h → HistoryEnd h → Rest direct h rest → Words direct (run direct h rest) words items
+pub asked : (h : Wired) (rest words : List Call) (items : List Item) → Grown h → HistoryEnd h → Rest direct h rest
+    → each direct (λ c a s. allowed-in-words c a) (run direct h rest) words → prefix (levels (trace direct (run direct h rest) words)) (signal (format-of (run direct h rest .port)) items)
     → Asked (h .port) (run direct h rest .port) rest words items
-asked h rest words items g he rs ws =
+asked h rest words items g he rs calls line =
     let r : Wired = run direct h rest in
     record {
       re = he .re;
@@ -37,8 +38,8 @@ asked h rest words items g he rs ws =
       reached = run-is rest h;
       flags = rs .flags;
       no-clocked-word = rs .no-clocked-word;
-      reading = words-calls words r (ws .calls);
-      signals = subst (λ (ms : List Moment). prefix (levels ms) (signal (format-of (r .port)) items)) (trace-is words r (grown-run rest h g)) (ws .line);
+      reading = words-calls words r calls;
+      signals = subst (λ (ms : List Moment). prefix (levels ms) (signal (format-of (r .port)) items)) (trace-is words r (grown-run rest h g)) line;
     }
 
 -- demand 3
@@ -49,7 +50,7 @@ recovery history rest words items he rs ws =
     let r : Wired = run direct h rest in
     let gh : Grown h = grown-run history start grown-start in
     let gr : Grown r = grown-run rest h gh in
-    let a : Asked (h .port) (r .port) rest words items = asked h rest words items gh he rs ws in
+    let a : Asked (h .port) (r .port) rest words items = asked h rest words items gh he rs (ws .calls) (ws .line) in
     let ms : throughout (r .port) items none-yet (trace direct r words)
     = subst (throughout (r .port) items none-yet) (sym (trace-is words r gr))
     (all-hold (h .port) (r .port) rest words items (gh .near) a separated (separately (r .port) items) (subst (separated none-yet) (trace-is words r gr) (ws .reads))) in

@@ -23,14 +23,14 @@ use Rattle.sci.specs.Valid.{limit, valid}
 use Rattle.branches.proofs.Branches.{by-cond}
 use Rattle.sci.proofs.CallLaws.{internal-external}
 use Rattle.laws.proofs.Masks.{and-and}
-use Rattle.recovery.specs.Line.{Count, Event, Item, count-after, half-passes, other, rdr-read}
+use Rattle.recovery.specs.Line.{Count, Event, Item, count-after, half-passes, other, rdr-read, stop-cells-begun}
 use Rattle.recovery.specs.Recovery.{Holds, Moment, allowed-in-words, answer-is, completes, levels, one-moment, read-before, separated, throughout}
 use Rattle.recovery.proofs.Bounds.{format-sound}
 use Rattle.recovery.proofs.Halfwise.{each-call, half-moments, moments, moments-of, none-refused}
 use Rattle.recovery.proofs.Halves.{view-half}
 use Rattle.recovery.proofs.Project.{has-mask, same-either, view, view-arm}
 use Rattle.recovery.proofs.Reached.{Near, near-half, near-line, near-pins, near-read}
-use Rattle.recovery.proofs.View.{View, completing, v-arm, v-flags, v-mark}
+use Rattle.recovery.proofs.View.{View, completing, v-arm, v-flags, v-half, v-mark}
 use Rattle.recovery.proofs.Words.{Where, half-kept, line-keeps, read-keeps, shown, where-stands}
 
 -- RDR read, on the view
@@ -103,7 +103,7 @@ module _ (start : Port) (items : List Item) (plain : format-of start .synchronou
       just-rdrf false = refl
 
   -- ---- what is known of the moments to come: that each completion finds RDR read
-  abbrev half-moment : Port → Moment
+  abbrev pub half-moment : Port → Moment
   half-moment p = record { event = half-passes (input-level p) (completes p); port = half-step p }
 
   -- `Apart c ms` is known of the moments ms after the count c: it says so of the next half, and goes on from moment to moment
@@ -127,6 +127,19 @@ module _ (start : Port) (items : List Item) (plain : format-of start .synchronou
       subst (Where (format-of start) items (start .received) (count-after c (half-passes (input-level p) (completes p))) ls)
       (sym (view-half p t (ap (λ (g : Format). g .synchronous) (s .fmt) ∙ plain) (s .plain-rx)))
       (half-kept (format-of start) items (start .received) plain long st c ls (view p) u w)
+
+  -- a completion lies in a first stop cell that has begun, and no completion before it was that word's. (Whether RDR was read is of no matter: were it read
+  -- just now, the place would be the same)
+  pub completes-inside : (c : Count) (ls : List Bool) (p : Port) → Here c (input-level p ∷ ls) p → completes p ≡ true
+      → suc (c .completions) ≤ stop-cells-begun (format-of start) items (suc (c .halves))
+  unfolding completing
+  completes-inside c ls p w e =
+      let v : View = v-flags (view p) (bitAnd (view p .flags) 0xbf) in
+      let c′ : Count = count-after c (rdr-read 0) in
+      let k : Where (format-of start) items (start .received) (count-after c′ (half-passes (input-level p) (completes p))) ls (v-half v)
+      = half-kept (format-of start) items (start .received) plain long st c′ ls v (λ g. refl) (read-keeps (format-of start) items (start .received) plain long st c (input-level p ∷ ls) (view p) 0 w) in
+      subst (λ (b : Bool). count-after c′ (half-passes (input-level p) b) .completions ≤ stop-cells-begun (format-of start) items (count-after c′ (half-passes (input-level p) b) .halves)) e
+      (shown (format-of start) items (start .received) plain long st (count-after c′ (half-passes (input-level p) (completes p))) ls (v-half v) k .most)
 
   module _ (Apart : Count → List Moment → Type 0) (known : Reading Apart) where
     halves-along : (n : ℕ) (p : Port) (c : Count) (ms : List Moment) → Near p → Here c (levels (half-moments n p ++ ms)) p → Apart c (half-moments n p ++ ms)
