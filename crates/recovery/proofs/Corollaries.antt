@@ -289,7 +289,7 @@ demanded port claim history rest words items he rs ws =
 pub demand : Demand direct
 demand = demanded direct recovery
 
-run-append : (port : Call → Port → Answer) (xs ys : List Call) (s : Wired) → run port s (xs ++ ys) ≡ run port (run port s xs) ys
+pub run-append : (port : Call → Port → Answer) (xs ys : List Call) (s : Wired) → run port s (xs ++ ys) ≡ run port (run port s xs) ys
 unfolding run
 run-append port [] ys s = refl
 run-append port (c ∷ xs) ys s = run-append port xs ys (step c (port c (s .port)) s)

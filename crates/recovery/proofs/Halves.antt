@@ -154,12 +154,12 @@ half-fits p t =
     (subst (Fits (suc (p .half))) (sym (ap (λ (v : View). v .rx) (early-basic p t))) (basic-fits (v-count (view p)) (p .half) refl (format-sound (p .smr) (p .semr)) t)))
 
 -- ---- no clocked word in the receiver
-abbrev OutcomePlain : Sampled → Type 0
+abbrev pub OutcomePlain : Sampled → Type 0
 OutcomePlain Dropped = Unit {0}
 OutcomePlain (Onward r) = r .format .synchronous ≡ false
 OutcomePlain (Whole r) = Unit {0}
 
-sample-plain : (now : Format) (high : Bool) (h : ℕ) (r : Rx) → now .synchronous ≡ false → r .format .synchronous ≡ false → (z : ℤ) → OutcomePlain (sample-at z now high h r)
+pub sample-plain : (now : Format) (high : Bool) (h : ℕ) (r : Rx) → now .synchronous ≡ false → r .format .synchronous ≡ false → (z : ℤ) → OutcomePlain (sample-at z now high h r)
 unfolding sample-at
 sample-plain now high h r c d (negsuc zero) = by-cond OutcomePlain high Dropped (Onward (stepped h (negsuc zero) (r .value) (r .parity) (r .error) r)) (λ e. tt) (λ e. d)
 sample-plain now high h r c d (negsuc (suc zero)) = by-cond OutcomePlain (high || now .synchronous) Dropped (Onward (started now h r)) (λ e. tt) (λ e. c)

@@ -15,6 +15,7 @@ pub mod LineFold
 pub mod Bridge
 pub mod Recovery
 pub mod Corollaries
+pub mod Forms
 pub mod Outside
 pub mod Layers
 pub mod Compute

@@ -12,15 +12,18 @@ use Rattle.frame.specs.declared.Format.{Format}
 use Rattle.sci.specs.declared.Port.{Port}
 use Rattle.frame.specs.Frame.{one-if, stop}
 use Rattle.sci.specs.Baud.{format-of}
-use Rattle.sci.specs.Calls.{Answer, Call, direct}
+use Rattle.sci.specs.Calls.{Call, direct}
+use Rattle.words.specs.Receiver.{rx-clocked}
 use Rattle.frame.proofs.Laws.{one-if≤}
-use Rattle.recovery.specs.Corollaries.{halves-in}
+use Rattle.recovery.specs.Corollaries.{Demand, halves-in}
 use Rattle.recovery.specs.Line.{Count, Event, Item, count-after, half-passes, mark, none-yet, other, rdr-read, span, stop-cells-begun, stop-cells-passed, word-of}
-use Rattle.recovery.specs.Outside.{OutsideIsEnough, ReadAfter, ReadBetween, WordsOutside}
-use Rattle.recovery.specs.Recovery.{Holds, Moment, levels, level-of, read-before, run, separated, start, throughout, trace, Wired}
+use Rattle.recovery.specs.Outside.{OutsideIsEnough, ReadAfter, ReadBetween, RecoversOutside, RestOutside, WordsOutside}
+use Rattle.recovery.specs.Recovery.{HistoryEnd, Holds, Moment, Recovers, Rest, Wired, Words, level-of, levels, read-before, rest-end, run, separated, start, throughout, trace}
 use Rattle.recovery.proofs.Bridge.{Grown, grown-run, trace-is}
+use Rattle.recovery.proofs.Corollaries.{demand, run-append}
+use Rattle.recovery.proofs.Forms.{no-clocked-word}
 use Rattle.recovery.proofs.Halfwise.{moments}
-use Rattle.recovery.proofs.Recovery.{asked, grown-start}
+use Rattle.recovery.proofs.Recovery.{asked, grown-start, recovery}
 use Rattle.recovery.proofs.RestCalls.{all-hold, levels-append}
 use Rattle.recovery.proofs.WordCalls.{Reading, completes-inside, half-moment}
 
@@ -222,9 +225,9 @@ module _ (first : Port) (items : List Item) (all : List Moment) (rd : ReadBetwee
         (read-at past ms m e, subst (λ (k : Count). separated k ms) (counts-append past (m ∷ []) none-yet) (separates (past ++ (m ∷ [])) ms (e ∙ sym (append-assoc past (m ∷ []) ms))))
 
 -- ---- of the real port
-pub outside-is-enough : OutsideIsEnough direct
-unfolding OutsideIsEnough
-outside-is-enough history rest words items he rs ws =
+words-outside : (history rest words : List Call) (items : List Item) → HistoryEnd (run direct start history) → Rest direct (run direct start history) rest
+    → WordsOutside direct (rest-end direct history rest) words items → Words direct (rest-end direct history rest) words items
+words-outside history rest words items he rs ws =
     let h : Wired = run direct start history in
     let r : Wired = run direct h rest in
     let gh : Grown h = grown-run history start grown-start in
@@ -235,3 +238,25 @@ outside-is-enough history rest words items he rs ws =
     = all-hold (h .port) (r .port) rest words items (gh .near) (asked h rest words items gh he rs (ws .calls) (ws .line)) (Past (r .port) items all rd) (from-past (r .port) items all rd)
     (record { past = []; split = refl; count = refl; held = tt }) in
     record { calls = ws .calls; line = ws .line; reads = subst (separated none-yet) (sym same) (separates (r .port) items all rd t [] all refl) }
+
+rest-outside : (history rest : List Call) → RestOutside direct history rest → Rest direct (run direct start history) rest
+rest-outside history rest rs =
+    record {
+      line = rs .line;
+      calls = rs .calls;
+      long = rs .long;
+      flags = rs .flags;
+      no-clocked-word = ap (λ (w : Wired). rx-clocked (w .port .rx)) (sym (run-append direct history rest start)) ∙ no-clocked-word (history ++ rest) (rs .form);
+    }
+
+pub outside-is-enough : OutsideIsEnough direct
+unfolding OutsideIsEnough
+outside-is-enough history rest words items he rs ws =
+    let r : Rest direct (run direct start history) rest = rest-outside history rest rs in
+    (r, words-outside history rest words items he r ws)
+
+pub recovers-outside : RecoversOutside direct
+unfolding RecoversOutside OutsideIsEnough Recovers Demand
+recovers-outside history rest words items he rs ws =
+    let e : Rest direct (run direct start history) rest × Words direct (rest-end direct history rest) words items = outside-is-enough history rest words items he rs ws in
+    (recovery history rest words items he (e .0) (e .1), demand history rest words items he (e .0) (e .1))

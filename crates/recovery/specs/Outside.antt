@@ -1,15 +1,19 @@
 -- Demand 3 with conditions that a caller can check from outside.
 -- Assumes nothing.
 use mathlib.Core.Path.{_≡_}
-use Prim.Native.Nat.{ℕ, _<_}
+use Prim.Native.Nat.{ℕ, _≤_, _<_}
+use mathlib.Core.Bool.{true, false}
 use mathlib.Core.List.{List, _∷_, _++_}
+use lib.Dec.{eqb}
+use lib.ListN.{length}
 use Rattle.frame.specs.declared.Format.{Format}
+use Rattle.frame.specs.Frame.{has}
 use Rattle.sci.specs.declared.Port.{Port}
 use Rattle.sci.specs.Baud.{format-of}
-use Rattle.sci.specs.Calls.{Answer, Call}
+use Rattle.sci.specs.Calls.{Answer, Call, lets-pass, passes-inside, reads, sets-line, sets-pins, sets-power, writes}
 use Rattle.recovery.specs.Corollaries.{Sentences, halves-in}
 use Rattle.recovery.specs.Line.{Item, prefix, rdr-read, signal, stop-cells-begun, stop-cells-passed}
-use Rattle.recovery.specs.Recovery.{HistoryEnd, Moment, Recovered, Rest, Wired, Words, allowed-in-words, each, levels, rest-end, run, start, trace}
+use Rattle.recovery.specs.Recovery.{HistoryEnd, Moment, Recovered, Rest, Wired, Words, accepted, allowed-in-rest, allowed-in-words, each, levels, line-at-mark, rest-end, run, start, trace}
 
 -- ---- RDR read in time, by the line's words
 -- a read of RDR after the first stop cells of n words have passed, and before that of the next begins
@@ -28,14 +32,50 @@ pub record ReadAfter (f : Format) (items : List Item) (ms : List Moment) (n : �
 abbrev pub ReadBetween : Format → List Item → List Moment → Type 0
 ReadBetween f items ms = (n : ℕ) → 0 < n → n < stop-cells-begun f items (halves-in ms) → ReadAfter f items ms n
 
+-- ---- no word of clocked form in the receiver, by what was written
+abbrev pub keeps-start-stop : Call → Answer → Type 0
+keeps-start-stop (writes x v) a = accepted a ≡ true → eqb x 0xff98 ≡ true → has v 0x80 ≡ false
+keeps-start-stop (reads x) a = Unit {0}
+keeps-start-stop (lets-pass n) a = Unit {0}
+keeps-start-stop (sets-line b) a = Unit {0}
+keeps-start-stop (sets-pins c b) a = Unit {0}
+keeps-start-stop (sets-power b) a = Unit {0}
+keeps-start-stop passes-inside a = Unit {0}
+
 module _ (direct : Call → Port → Answer) where
-  -- `Words`, with this in place of its condition on completions
+  -- at some point of the calls RE was clear and SMR bit 0x80 too, and from there on no accepted write to SMR set that bit. A port on which it was never set
+  -- meets this with nothing before that point
+  pub record StartStopSince (calls : List Call) : Type 0 where
+    pub before : List Call
+    pub since : List Call
+    pub split : calls ≡ before ++ since
+    pub re-clear : has (run direct start before .port .scr) 0x10 ≡ false
+    pub start-stop : has (run direct start before .port .smr) 0x80 ≡ false
+    pub kept : each direct (λ c a s. keeps-start-stop c a) (run direct start before) since
+
+  -- ---- `Rest` and `Words` with these in place of `no-clocked-word` and `reads`
+  pub record RestOutside (history rest : List Call) : Type 0 where
+    pub line : line-at-mark (run direct start history) ≡ true
+    pub calls : each direct (λ c a s. allowed-in-rest c a × (line-at-mark s ≡ true)) (run direct start history) rest
+    pub long : 384 ≤ length (levels (trace direct (run direct start history) rest))
+    pub flags : has (rest-end direct history rest .port .ssr) 0x78 ≡ false
+    pub form : StartStopSince (history ++ rest)
+
   pub record WordsOutside (s : Wired) (cs : List Call) (items : List Item) : Type 0 where
     pub calls : each direct (λ c a s. allowed-in-words c a) s cs
     pub line : prefix (levels (trace direct s cs)) (signal (format-of (s .port)) items)
     pub reads : ReadBetween (format-of (s .port)) items (trace direct s cs)
 
+  -- they are enough: what `Recovers` asks follows
   unfoldable pub OutsideIsEnough : Type 0
   OutsideIsEnough =
-      (history rest words : List Call) (items : List Item) → HistoryEnd (run direct start history) → Rest direct (run direct start history) rest
-      → WordsOutside (rest-end direct history rest) words items → Words direct (rest-end direct history rest) words items
+      (history rest words : List Call) (items : List Item) → HistoryEnd (run direct start history) → RestOutside history rest
+      → WordsOutside (rest-end direct history rest) words items
+      → Rest direct (run direct start history) rest × Words direct (rest-end direct history rest) words items
+
+  -- and so demand 3
+  unfoldable pub RecoversOutside : Type 0
+  RecoversOutside =
+      (history rest words : List Call) (items : List Item) → HistoryEnd (run direct start history) → RestOutside history rest
+      → WordsOutside (rest-end direct history rest) words items
+      → Recovered direct history rest words items × Sentences (rest-end direct history rest .port) items (trace direct (rest-end direct history rest) words)
