@@ -15,6 +15,7 @@ use Rattle.sci.specs.Baud.{format-of, internal}
 use Rattle.sci.specs.Calls.{Answer, Call, done, lets-pass, passes-inside, reads, refused, sets-line, sets-pins, sets-power, writes}
 use Rattle.words.specs.Receiver.{rx-clocked}
 use Rattle.recovery.specs.Line.{Count, Event, Item, count-after, half-passes, none-yet, other, prefix, rdr-read, signal, stop-cells-begun, stop-cells-passed, tally-after, values}
+use Rattle.recovery.specs.Outside.{keeps-start-stop}
 use Rattle.recovery.specs.Recovery.{HistoryEnd, Holds, Moment, Recovered, Recovers, Rest, Wired, Words, accepted, allowed-in-rest, allowed-in-words, answer-is, by-8, call-trace, each, level-of, levels, line-at-mark, one-moment, read-before, run, separated, start, step, throughout, trace, wait-trace, waited}
 use Rattle.recovery.proofs.RestCalls.{levels-append}
 
@@ -78,6 +79,31 @@ words-sound (sets-line b) a e = tt
 words-sound (sets-pins c b) a e = tt
 words-sound passes-inside a e = tt
 
+unfoldable pub may-form : Call → Answer → Bool
+may-form (writes x v) a = not (accepted a && (eqb x 0xff98 && has v 0x80))
+may-form (sets-power b) a = true
+may-form (reads x) a = true
+may-form (lets-pass n) a = true
+may-form (sets-line b) a = true
+may-form (sets-pins c b) a = true
+may-form passes-inside a = true
+
+form-sound : (c : Call) (a : Answer) → may-form c a ≡ true → keeps-start-stop c a
+unfolding may-form
+form-sound (writes x v) a e = go (accepted a) (eqb x 0xff98) (has v 0x80) e
+  where
+    go : (k l m : Bool) → not (k && (l && m)) ≡ true → k ≡ true → l ≡ true → m ≡ false
+    go true true true g h i = absurd (false≢true g)
+    go true true false g h i = refl
+    go true false m g h i = absurd (false≢true i)
+    go false l m g h i = absurd (false≢true h)
+form-sound (sets-power b) a e = tt
+form-sound (reads x) a e = tt
+form-sound (lets-pass n) a e = tt
+form-sound (sets-line b) a e = tt
+form-sound (sets-pins c b) a e = tt
+form-sound passes-inside a e = tt
+
 unfoldable pub was-read : Event → Count → Bool
 was-read (half-passes m true) c = not (c .unread)
 was-read (half-passes m false) c = true
@@ -119,6 +145,13 @@ module _ (direct : Call → Port → Answer) where
   reads-sound (c ∷ cs) s e =
       let b : (may-read c (direct c (s .port)) && true) ≡ true = and-left (may-read c (direct c (s .port)) && true) _ e in
       (words-sound c (direct c (s .port)) (and-left (may-read c (direct c (s .port))) _ b), reads-sound cs (step c (direct c (s .port)) s) (and-right (may-read c (direct c (s .port)) && true) _ e))
+
+  pub forms-sound : (cs : List Call) (s : Wired) → all-may may-form (λ q. true) s cs ≡ true → each direct (λ c a q. keeps-start-stop c a) s cs
+  unfolding all-may
+  forms-sound [] s e = tt
+  forms-sound (c ∷ cs) s e =
+      let b : (may-form c (direct c (s .port)) && true) ≡ true = and-left (may-form c (direct c (s .port)) && true) _ e in
+      (form-sound c (direct c (s .port)) (and-left (may-form c (direct c (s .port))) _ b), forms-sound cs (step c (direct c (s .port)) s) (and-right (may-form c (direct c (s .port)) && true) _ e))
 
   unfoldable pub history-meets : Wired → Bool
   history-meets h = has (h .port .scr) 0x10 && (not (has (h .port .smr) 0x80) && (not (has (h .port .ssr) 0x38) && internal (h .port)))

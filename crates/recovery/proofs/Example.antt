@@ -1,17 +1,24 @@
 -- A worked list with a noisy history: it meets all that the claim asks, so the claim is not empty; and what follows for it.
 -- Assumes nothing.
-use mathlib.Core.Path.{_≡_, refl}
-use mathlib.Core.Bool.{Bool, cond}
+use mathlib.Core.Path.{_≡_, refl, ap, subst}
+use Prim.Native.Nat.{ℕ, zero, suc, _<_}
+use native.Mathlib.Omega.{arith}
+use mathlib.Core.Bool.{Bool, true, cond}
 use mathlib.Core.List.{List, [], _∷_, _++_}
-use lib.ListN.{replicate}
+use lib.ListN.{replicate, length, take, drop, getD}
+use borrow.Author.Tests.{leb-true}
 use Rattle.frame.specs.Frame.{bits, format, word}
+use Rattle.sci.specs.Baud.{format-of}
 use Rattle.sci.specs.Calls.{Call, direct, lets-pass, passes-inside, reads, sets-line, sets-pins, sets-power, writes}
-use Rattle.recovery.specs.Corollaries.{Demand, Sentences}
-use Rattle.recovery.specs.Line.{Item, mark, signal, spread, stop-cells-begun, stop-cells-passed, tally-after, values, word-of}
-use Rattle.recovery.specs.Recovery.{Recovered, Recovers, Wired, completed, levels, run, start, trace, wait-trace}
-use Rattle.recovery.proofs.Compute.{count-halves, Met, all-may, are-separated, asked-of, history-meets, is-prefix, may-read, may-rest, meets, met, rest-meets, was-read, words-meet}
+use Rattle.sci.specs.Power.{fresh}
+use Rattle.recovery.specs.Corollaries.{Demand, Sentences, halves-in}
+use Rattle.recovery.specs.Line.{Item, mark, other, signal, spread, stop-cells-begun, stop-cells-passed, tally-after, values, word-of}
+use Rattle.recovery.specs.Outside.{ReadAfter, ReadBetween, RecoversOutside, RestOutside, WordsOutside}
+use Rattle.recovery.specs.Recovery.{Moment, Recovered, Recovers, Rest, Wired, rest-end, completed, levels, run, start, trace, wait-trace}
+use Rattle.recovery.proofs.Compute.{count-halves, forms-sound, may-form, Met, all-may, are-separated, asked-of, history-meets, is-prefix, may-read, may-rest, meets, met, rest-meets, was-read, words-meet}
 use Rattle.recovery.proofs.Computes.{computes}
 use Rattle.recovery.proofs.Corollaries.{demand}
+use Rattle.recovery.proofs.Outside.{recovers-outside}
 use Rattle.recovery.proofs.Recovery.{recovery}
 
 -- a word begins and reset mode comes in mid word; SPCR inverts the line, so that line 1 is off mark and a word begins at once; the format changes in
@@ -58,10 +65,65 @@ pub sentences : Sentences (run direct (run direct start history) rest .port) ite
 unfolding Demand
 sentences = demand history rest words items (noisy .ended) (noisy .rested) (noisy .worded)
 
--- both words completed, the second in a cell that was cut
+-- it also meets what can be checked from outside. RDR is read after the first stop cell of the first word, halves 294 to 325, and before that of the second, which
+-- begins at half 614: at the 336th moment, 325 halves and ten calls of the line before it. Clocked form is never asked for
 r : Wired
 r = run direct (run direct start history) rest
 
+ms : List Moment
+ms = trace direct r words
+
+split-at : (k : ℕ) (l : List Moment) (m : Moment) → k < length l → l ≡ take k l ++ (getD l k m ∷ drop (suc k) l)
+split-at k [] m h = let z : ⊥ = omega arith in absurd z
+split-at zero (x ∷ l) m h = refl
+split-at (suc k) (x ∷ l) m h = ap (λ (xs : List Moment). x ∷ xs) (split-at k l m (omega arith))
+
+first-read : ReadAfter (format-of (r .port)) items ms 1
+unfolding computed r ms
+first-read =
+    record {
+      before = take 335 ms;
+      read = getD ms 335 (record { event = other; port = r .port });
+      later = drop 336 ms;
+      split = split-at 335 ms (record { event = other; port = r .port }) (leb-true 336 (length ms) refl);
+      answer = 0x55;
+      of-rdr = refl;
+      passed = refl;
+      begun = refl;
+    }
+
+two-begun : stop-cells-begun (format-of (r .port)) items (halves-in ms) ≡ 2
+unfolding computed r ms
+two-begun = refl
+
+reads-between : ReadBetween (format-of (r .port)) items ms
+reads-between n lo up = let e : 1 ≡ n = omega (arith, two-begun) in subst (ReadAfter (format-of (r .port)) items ms) e first-read
+
+form : Bool
+unfolding computed may-form
+form = all-may direct may-form (λ q. true) start (history ++ rest)
+
+rested-outside : RestOutside direct history rest
+unfolding form fresh
+rested-outside =
+    let w : Rest direct (run direct start history) rest = noisy .rested in
+    record {
+      line = w .line;
+      calls = w .calls;
+      long = w .long;
+      flags = w .flags;
+      form = record { before = []; since = history ++ rest; split = refl; re-clear = refl; start-stop = refl; kept = forms-sound direct (history ++ rest) start refl };
+    }
+
+worded-outside : WordsOutside direct (rest-end direct history rest) words items
+unfolding ms r
+worded-outside = record { calls = noisy .worded .calls; line = noisy .worded .line; reads = reads-between }
+
+pub follows-outside : Recovered direct history rest words items × Sentences (rest-end direct history rest .port) items (trace direct (rest-end direct history rest) words)
+unfolding RecoversOutside
+follows-outside = recovers-outside history rest words items (noisy .ended) rested-outside worded-outside
+
+-- both words completed, the second in a cell that was cut
 two : completed (trace direct r words) 645 ≡ 2
 unfolding computed completed r
 two = refl

@@ -1,4 +1,9 @@
--- Demand 3 with conditions that a caller can check from outside.
+-- Demand 3 with conditions that a caller can check from outside. `Recovers` (Recovery.antt) asks two things of the port's inside: that RDR is read between any
+-- two completions, and that at the rest's end the receiver holds no word of clocked form. Here the first is said by the words on the line and the second by
+-- what was written. Both ask for more than `Recovers` does: a read in the first stop cell, after its sample, does not count here.
+-- What else is asked a caller sees: SCR, SMR, SSR, SPCR and SEMR are what a read of them answers; halves pass, one for each that an accepted wait names, while
+-- the last accepted power command has module and main clock on and reset mode off and SCR bit 1 is clear (sci's `internal`).
+-- Proved in proofs/Outside.antt; the worked list of proofs/Example.antt meets it, and proofs/Facts.antt has what goes wrong otherwise.
 -- Assumes nothing.
 use mathlib.Core.Path.{_≡_}
 use Prim.Native.Nat.{ℕ, _≤_, _<_}
