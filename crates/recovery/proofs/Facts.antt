@@ -7,7 +7,8 @@ use mathlib.Core.List.{List, [], _∷_, _++_}
 use lib.Dec.{eqb}
 use lib.ListN.{replicate, length}
 use Rattle.frame.specs.Frame.{bits, format, one-if, word}
-use Rattle.sci.specs.Calls.{Call, direct, lets-pass, sets-line, sets-power, writes}
+use Rattle.sci.specs.Calls.{Call, direct, lets-pass, reads, sets-line, sets-power, writes}
+use Rattle.words.specs.Receiver.{rx-clocked}
 use Rattle.recovery.specs.Line.{mark, signal, spread, stop-cells-begun, stop-cells-passed, tally-after, values, word-of}
 use Rattle.recovery.specs.Recovery.{Rest, Wired, completed, levels, run, start, trace, wait-trace}
 use Rattle.recovery.proofs.Compute.{count-halves, all-may, all-stand, are-separated, asked-of, breaks, history-meets, is-prefix, may-read, may-rest, none-by-8, rest-meets, says, stands, was-read, words-meet}
@@ -97,3 +98,29 @@ too-early = sets-power 3 ∷ writes 0xff98 0x20 ∷ writes 0xff9a 0x10 ∷ sets-
 with-256 : breaks direct 256 too-early (lets-pass 256 ∷ []) (send 0 0 (bits 4 (word (format 0x20 0) 0x55))) (word-of 0x55 ∷ []) ≡ true
 unfolding report too-early spread signal values stop-cells-begun stop-cells-passed tally-after is-prefix may-rest may-read was-read are-separated all-may count-halves history-meets rest-meets words-meet asked-of says stands all-stand none-by-8 breaks
 with-256 = refl
+
+-- ---- what can be checked from outside (specs/Outside.antt): why it is asked
+-- RDR read in the first stop cell, but before its sample, is read too early: the next word overruns (SSR 0xe4). Read when the cell has passed it is in time (0xc4)
+two-words : List Call → List Call → List Call
+two-words inside behind =
+    send 8 0 (bits 9 (word (format 0 8) 0x55)) ++ (sets-line 1 ∷ lets-pass 4 ∷ (inside ++ (lets-pass 12 ∷ (behind ++ send 8 0 (bits 10 (word (format 0 8) 0x23))))))
+
+too-early-read : run direct (run direct start (set-up 8 0 100)) (two-words (reads 0xff9d ∷ []) []) .port .ssr ≡ 0xe4
+unfolding report two-words
+too-early-read = refl
+
+read-in-time : run direct (run direct start (set-up 8 0 100)) (two-words [] (reads 0xff9d ∷ [])) .port .ssr ≡ 0xc4
+unfolding report two-words
+read-in-time = refl
+
+-- a clocked word, begun while SMR asked for it, stays in the receiver when SMR goes back to start-stop form with RE set, and goes with RE
+left : List Call
+left = sets-power 3 ∷ writes 0xff98 0x80 ∷ writes 0xff9a 0x10 ∷ lets-pass 4 ∷ writes 0xff98 0 ∷ []
+
+stays-clocked : rx-clocked (run direct start left .port .rx) ≡ true
+unfolding report left
+stays-clocked = refl
+
+goes-with-re : rx-clocked (run direct start (left ++ (writes 0xff9a 0 ∷ writes 0xff9a 0x10 ∷ [])) .port .rx) ≡ false
+unfolding report left
+goes-with-re = refl
