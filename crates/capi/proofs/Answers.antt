@@ -1,6 +1,6 @@
 -- What the proofs of the exported functions put together from what calls gave.
 -- Assumes nothing.
-use mathlib.Core.Path.{_≡_, sym, ap, _∙_}
+use mathlib.Core.Path.{_≡_, refl, sym, ap, _∙_}
 use mathlib.Core.Bool.{Bool, true, false, cond, _&&_}
 use mathlib.Core.List.{List, [], _∷_}
 use Prim.Native.Nat.{ℕ, _+_, _*_}
@@ -13,7 +13,8 @@ use Rattle.sci.specs.declared.Called.{Called}
 use Rattle.sci.specs.declared.Outcome.{Outcome}
 use Rattle.sci.specs.declared.Outcome.the-variants.{Done, Refused}
 use Rattle.sci.specs.declared.Refusal.{Refusal}
-use Rattle.sci.specs.Calls.{Call, Answer, direct, answer, answer-of, number}
+use Rattle.sci.specs.Valid.{valid}
+use Rattle.sci.specs.Calls.{Call, Answer, refuse, called, direct, answer, answer-of, number}
 use Rattle.sci.specs.Pins.{pins, interrupt, level-number}
 use Rattle.player.specs.declared.Played.{Played}
 use Rattle.player.specs.Play.{play, end-number, end-offset, ran}
@@ -44,10 +45,27 @@ answered-refused s n offset r x h k =
 pub answered-of : (z : Lent) (s : List ℕ) (x : Called) (c : Call) (p q : Port) → z ≡ answered s (answer x) → answer x ≡ direct c p → p ≡ q → z ≡ answered s (direct c q)
 answered-of z s x c p q h k e = h ∙ ap (answered s) (k ∙ ap (direct c) e)
 
+-- the direct call tests 8 itself, so it may come before the test of the kind
+late-test : (c : Call) (known : Bool) (s : List ℕ) (x : Lent) (p : Port)
+    → cond known (answered s (direct c p)) (cond (valid p) x (lent (refusal 8) s)) ≡ cond (valid p) (cond known (answered s (direct c p)) x) (lent (refusal 8) s)
+unfolding direct
+late-test c known s x p = go known (valid p)
+  where
+    go : (k v : Bool) → let a = answered s (cond v (called c p) (refuse 8 p)) in cond k a (cond v x (lent (refusal 8) s)) ≡ cond v (cond k a x) (lent (refusal 8) s)
+    go true true = refl
+    go true false = refl
+    go false true = refl
+    go false false = refl
+
 pub call-on-port : (z : Lent) (f : Bool) (kind a b : ℕ) (s : List ℕ) → f ≡ fits port-max s → f ≡ true
-    → z ≡ cond (leb 1 kind && leb kind 7) (answered s (direct (command kind a b) (port-in s))) (lent (refusal 7) s) → z ≡ call kind a b s
+    → z ≡ cond (leb 1 kind && leb kind 7) (answered s (direct (command kind a b) (port-in s))) (cond (valid (port-in s)) (lent (refusal 7) s) (lent (refusal 8) s))
+    → z ≡ call kind a b s
 unfolding call
-call-on-port z f kind a b s e t h = h ∙ sym (ap (call-on kind a b s) (decoded f s e t))
+call-on-port z f kind a b s e t h =
+    h ∙ late-test (command kind a b) (leb 1 kind && leb kind 7) s (lent (refusal 7) s) (port-in s) ∙ sym (ap (call-on kind a b s) (decoded f s e t))
+
+pub valid-of : (r : Bool) (p q : Port) → r ≡ valid p → p ≡ q → r ≡ valid q
+valid-of r p q h e = h ∙ ap valid e
 
 pub call-on-nothing : (f : Bool) (kind a b : ℕ) (s : List ℕ) → f ≡ fits port-max s → f ≡ false → lent (refusal 8) s ≡ call kind a b s
 unfolding call

@@ -15,6 +15,7 @@ use Rattle.sci.specs.declared.Pins.{Pins}
 use Rattle.sci.specs.Calls.{Call, reads, writes, lets-pass, sets-line, sets-pins, sets-power, passes-inside, Answer, done, refused, direct}
 use Rattle.sci.specs.Pins.{pins, interrupt, level-number}
 use Rattle.sci.specs.Power.{fresh}
+use Rattle.sci.specs.Valid.{valid}
 use Rattle.player.specs.Play.{Run, play}
 use Rattle.capi.specs.State.{Decoded, a-port, nothing, decode, encode, port-max}
 
@@ -45,10 +46,11 @@ abbrev pub answered : List ℕ → Answer → Lent
 answered s (done v q) = lent v (encode q)
 answered s (refused n offset q) = lent (refusal n) s
 
+-- "Direct calls test 8" first, so it comes before the test of the kind
 abbrev pub call-on : ℕ → ℕ → ℕ → List ℕ → Decoded → Lent
 call-on kind a b s nothing = lent (refusal 8) s
 call-on kind a b s (a-port p) =
-    cond (leb 1 kind && leb kind 7) (answered s (direct (command kind a b) p)) (lent (refusal 7) s)
+    cond (valid p) (cond (leb 1 kind && leb kind 7) (answered s (direct (command kind a b) p)) (lent (refusal 7) s)) (lent (refusal 8) s)
 
 unfoldable pub call : ℕ → ℕ → ℕ → List ℕ → Lent
 call kind a b s = call-on kind a b s (decode s)

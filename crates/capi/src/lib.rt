@@ -688,11 +688,15 @@ pub extern "C" fn sci3_call(state: &mut [u64], kind: u32, a: u32, b: u32) -> u64
     ensures { λ r. ⌜ lent r (now (state .exit)) ≡ call kind a b (now (state .entry)) ⌝ }
 {
     if is_state(state) {
+        let port = port_in(state);
         if (kind >= 1) & (kind <= 7) {
-            let called = direct(port_in(state), kind, a, b);
+            let called = direct(port, kind, a, b);
             return answered(state, called);
         }
-        return 263;
+        // the direct call tests 8 itself; a kind without one must not come before it
+        if port.valid() {
+            return 263;
+        }
     }
     264
 }

@@ -240,6 +240,11 @@ alterations! {
             shown.answer = Answer::Refused(1);
         }
     }
+    "refusal: 7 before 8": |_, call, shown| {
+        if !(1..=7).contains(&call.kind) {
+            shown.answer = Answer::Refused(7);
+        }
+    }
     "refusal: 3 only with the module on": |before, _, shown| {
         if shown.answer == Answer::Refused(3) && !before.module {
             shown.answer = Answer::Done(0);

@@ -112,7 +112,7 @@ pub fn arrays() -> (u64, Vec<String>) {
     for (what, array) in &all {
         let mut lent = array.clone();
         let mut answers: Vec<(&str, u64)> = Vec::new();
-        for kind in 1..=7 {
+        for kind in 0..=8 {
             let c = Command { kind, a: 0, b: 0 };
             answers.push(("sci3_call", call(&mut lent, c)));
         }

@@ -119,6 +119,7 @@ table! {
         ExternalOn = "clock turned external",
         ExternalOff = "clock turned internal",
         Refused8 = "refused 8",
+        Refused8Kind = "refused 8, kind not 1 to 7",
         Refused2Read = "refused 2, kind 1",
         Refused2Address = "refused 2, kind 2, address",
         Refused2Value = "refused 2, kind 2, value",
@@ -320,7 +321,8 @@ impl Coverage {
     fn refused(&mut self, step: &Step, number: u8) {
         let (s, c) = (step.before, step.call);
         self.met(match (number, c.kind) {
-            (8, _) => Met::Refused8,
+            (8, 1..=7) => Met::Refused8,
+            (8, _) => Met::Refused8Kind,
             (2, 1) => Met::Refused2Read,
             (2, 2) if c.a > 0xffff => Met::Refused2Address,
             (2, 2) => Met::Refused2Value,

@@ -472,6 +472,9 @@ fn refusals(l: &mut List) {
     }
 }
 
+/// Kinds that are none of the seven.
+pub const UNKNOWN: [u32; 6] = [0, 8, 9, 255, 256 + 1, u32::MAX];
+
 /// A call with something wrong, or just not wrong.
 pub fn refused(r: &mut Random) -> Command {
     let beyond = |r: &mut Random, most: u32| match r.below(4) {
@@ -498,7 +501,7 @@ pub fn refused(r: &mut Random) -> Command {
         8 => (5, r.below(2), beyond(r, 1)),
         9 => (6, beyond(r, 15), any),
         10 => (7, any, any),
-        _ => (r.pick(&[0, 8, 9, 255, 256 + 1, u32::MAX]), any, any),
+        _ => (r.pick(&UNKNOWN), any, any),
     };
     Command { kind, a, b }
 }

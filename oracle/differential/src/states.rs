@@ -2,7 +2,7 @@
 //! hold, and states that fail it in exactly one clause.
 use crate::{
     compare::{Case, Start},
-    lists::{halves_apart, refused},
+    lists::{UNKNOWN, halves_apart, refused},
 };
 use model::{
     Command, Format, LIMIT, State, Tx, failed_clauses,
@@ -394,7 +394,7 @@ fn sender_due(s: &mut State) -> Option<&mut u32> {
 }
 
 /// A state that fails exactly one clause, how it was broken, and calls on it
-/// of every kind, right and wrong.
+/// of every kind, right and wrong, and of a kind that is none of the seven.
 pub fn failing(seed: u64) -> (usize, Case) {
     let r = &mut Random::new(seed);
     let broken = r.below(BREAKS.len() as u32) as usize;
@@ -408,9 +408,12 @@ pub fn failing(seed: u64) -> (usize, Case) {
     let mut calls: Vec<Command> = (1..=7).map(|kind| Command { kind, a: 0, b: 0 }).collect();
     calls.extend((0..3).map(|_| sample::call(r)));
     calls.extend((0..3).map(|_| refused(r)));
-    // Document 01 has no direct call of another kind, so it does not say
-    // whether 8 or 7 comes first there.
-    calls.retain(|c| (1..=7).contains(&c.kind));
+    // 8 is tested first, so it comes before 7 too.
+    calls.push(Command {
+        kind: r.pick(&UNKNOWN),
+        a: 0,
+        b: 0,
+    });
     let case = Case {
         start: Start::Given(state),
         calls,

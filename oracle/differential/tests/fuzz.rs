@@ -118,7 +118,7 @@ fn an_earlier_script_is_played_first() {
 }
 
 /// The seeds alone find most wrong sides; the rest is the fuzzer's to find, or
-/// needs a script longer than a seed.
+/// needs a script longer than a seed, or a call behind the commands.
 #[test]
 fn seeds_find_wrong_sides() {
     let seeds = seeds::all();
@@ -130,8 +130,14 @@ fn seeds_find_wrong_sides() {
             missed.push(name);
         }
     }
-    assert!(missed.len() <= 9, "of {WRONG}: {missed:?}");
+    assert!(missed.len() <= 10, "of {WRONG}: {missed:?}");
     assert!(wrong(0).is_none() && wrong(WRONG + 1).is_none());
+}
+
+/// The wrong side of this name.
+fn named(name: &str) -> Side {
+    let mut all = (1..=WRONG).filter_map(wrong);
+    all.find(|(_, n)| *n == name).expect("it is one").0
 }
 
 /// Operands above their ranges come to the direct calls.
@@ -142,11 +148,25 @@ fn bytes_behind_the_commands_are_one_more_call() {
         script: bytes(text),
         ..Input::default()
     };
-    let number = (1..=WRONG).find(|k| wrong(*k).is_some_and(|(_, n)| n == "refusal: 1 before 2"));
-    let (side, _) = wrong(number.expect("it is one")).expect("it is one");
-    let mut fuzz = Fuzz::new(side);
+    let mut fuzz = Fuzz::new(named("refusal: 1 before 2"));
     assert!(!fuzz.differs(&before("06 03 02 00 00 00 00 00 01 00")));
     assert!(fuzz.differs(&before("06 03 02 80 80 00 00 00 01 00 00")));
+}
+
+/// So does a kind that is none of the seven, also on a state that fails the
+/// field test: here SCR has bit 3.
+#[test]
+fn an_unknown_kind_is_one_more_call() {
+    let on = |scr| Input {
+        calls: true,
+        numbers: vec![(3, scr)],
+        script: bytes("08 00 00 00 00 00 00 00 00"),
+        ..Input::default()
+    };
+    let mut fuzz = Fuzz::new(named("refusal: 7 before 8"));
+    assert!(!fuzz.differs(&on(0x30)));
+    assert!(fuzz.differs(&on(0x38)));
+    assert!(!Fuzz::new(right()).differs(&on(0x38)));
 }
 
 #[test]

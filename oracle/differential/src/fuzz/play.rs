@@ -17,7 +17,7 @@ use crate::{
     },
     states::moved,
 };
-use model::{Command, LIMIT, commands, field_test};
+use model::{Command, LIMIT, commands};
 
 /// What stands beside the oracle: a player, and direct calls.
 pub struct Side {
@@ -163,13 +163,8 @@ impl Fuzz {
             && let Some((a, operands)) = operands.split_first_chunk()
             && let Some((b, _)) = operands.split_first_chunk()
         {
-            // Where the field test fails, which number comes first is known
-            // for these kinds alone.
-            let kind = match field_test(&first_state(&case.start)) {
-                Ok(()) => (*kind).into(),
-                Err(_) => 1 + u32::from(*kind) % 7,
-            };
             let (a, b) = (u32::from_le_bytes(*a), u32::from_le_bytes(*b));
+            let kind = (*kind).into();
             calls.push(Command { kind, a, b });
         }
         let (mut oracle, mut port) = (OraclePort::default(), (self.side.port)(self.side.number));
