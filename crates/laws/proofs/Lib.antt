@@ -9,4 +9,6 @@ pub mod TallyReceived
 pub mod TallyHalf
 pub mod TallyCalls
 pub mod Laws
+pub mod KeepRanges
+pub mod Ranges
 pub mod ReceiveErrors
