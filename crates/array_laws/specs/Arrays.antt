@@ -1,0 +1,85 @@
+-- What holds of the lent array. From `sci3_fresh` on, through any `sci3_call` and `sci3_play`, it is the encoding of one port: the port after the direct
+-- calls and scripts that they are. So what is proved of lists of direct calls and scripts is proved of the array: the laws, and demand 3.
+-- The array is nobody else's to write meanwhile. Operands are any numbers, those of 32 bits among them.
+-- Proved in proofs/Arrays.antt.
+-- Assumes nothing.
+use mathlib.Core.Path.{_≡_}
+use Prim.Native.Nat.{ℕ, _<_}
+use mathlib.Core.Bool.{cond, _&&_}
+use mathlib.Core.List.{List, [], _∷_, _++_}
+use lib.Dec.{leb}
+use lib.ListN.{length}
+use Rattle.frame.specs.Frame.{one-if}
+use Rattle.sci.specs.declared.Port.{Port}
+use Rattle.sci.specs.Calls.{Call, done, direct, run}
+use Rattle.sci.specs.Pins.{pins, interrupt}
+use Rattle.sci.specs.Power.{fresh}
+use Rattle.player.specs.Play.{play}
+use Rattle.recovery.specs.Line.{Item}
+use Rattle.recovery.specs.Layers.{Carried, state-after}
+use Rattle.recovery.specs.Recovery.{HistoryEnd, Rest, Words, rest-end, start, run as run-wired}
+use Rattle.runs.specs.Runs.{Action, makes-call, plays-script, leaves, counts-as, port-after, all-calls}
+use Rattle.capi.specs.State.{encode, port-max}
+use Rattle.capi.specs.Exports.{lent, refusal, command, answered, call, pins-number, pins-answer, interrupt-answer, fresh-state, playing, played}
+
+-- ---- exported calls
+-- the two that write the array: `sci3_call` with kind and operands, `sci3_play` with a script and what the lent log holds
+pub data Exported : Type 0 where
+  sci3-call : ℕ → ℕ → ℕ → Exported
+  sci3-play : List ℕ → List ℕ → Exported
+
+-- the array after one, and after a list of them
+abbrev pub array-left : Exported → List ℕ → List ℕ
+array-left (sci3-call kind a b) s = call kind a b s .state
+array-left (sci3-play script log) s = played s script log .state
+
+abbrev pub array-after : List ℕ → List Exported → List ℕ
+array-after = state-after array-left
+
+-- what one is as an action on a port: a direct call, nothing where the kind is none of 1 to 7, a script
+abbrev pub action-of : Exported → List Action
+action-of (sci3-call kind a b) = cond (leb 1 kind && leb kind 7) (makes-call (command kind a b) ∷ []) []
+action-of (sci3-play script log) = plays-script script log ∷ []
+
+abbrev pub actions : List Exported → List Action
+actions [] = []
+actions (e ∷ es) = action-of e ++ actions es
+
+-- ---- the array is the port
+-- `first` is the array when `sci3_fresh` is called, whatever it holds
+unfoldable pub ArraysArePorts : Type 0
+ArraysArePorts =
+    (first : List ℕ) (es : List Exported) → length first ≡ length port-max
+    → array-after (fresh-state first .state) es ≡ encode (port-after (actions es))
+
+-- so the laws of grown ports are laws of it: the port is the one after the direct calls that these actions are
+unfoldable pub ArraysAreCalls : Type 0
+ArraysAreCalls =
+    (first : List ℕ) (es : List Exported) → length first ≡ length port-max
+    → array-after (fresh-state first .state) es ≡ encode (run fresh (all-calls (actions es)))
+
+-- ---- what is answered
+-- by each export on an array s that holds the port p: never 8; and what a direct call on p, a run on p, the pins of p and its interrupt request are
+pub record Answers (s : List ℕ) (p : Port) : Type 0 where
+  pub of-call : (kind a b : ℕ) → call kind a b s ≡ cond (leb 1 kind && leb kind 7) (answered s (direct (command kind a b) p)) (lent (refusal 7) s)
+  -- below 256, so that no value is taken for a refusal
+  pub of-read : (c : Call) (v : ℕ) (q : Port) → direct c p ≡ done v q → v < 256
+  pub of-play : (script log : List ℕ) → let r = play p script log in played s script log ≡ playing (r .number) (r .offset ∷ r .used ∷ []) (encode (r .port)) (r .log)
+  pub of-pins : pins-answer s ≡ pins-number (pins p)
+  pub of-interrupt : interrupt-answer s ≡ one-if (interrupt p)
+
+unfoldable pub ArraysAnswer : Type 0
+ArraysAnswer =
+    (first : List ℕ) (es : List Exported) → length first ≡ length port-max
+    → Answers (array-after (fresh-state first .state) es) (port-after (actions es))
+
+-- ---- demand 3
+-- exported calls whose direct calls are history, rest and words recover: `Recovered` and the demand's sentences hold of these calls (recovery's
+-- Layers.antt), and the array is the encoding of the port that they are about
+unfoldable pub ArraysRecover : Type 0
+ArraysRecover =
+    (first : List ℕ) (es : List Exported) (history rest words : List Call) (line : List Item) → length first ≡ length port-max
+    → all-calls (actions es) ≡ history ++ (rest ++ words)
+    → HistoryEnd (run-wired direct start history) → Rest direct (run-wired direct start history) rest → Words direct (rest-end direct history rest) words line
+    → Carried leaves counts-as fresh (λ q p. q ≡ p) (actions es) history rest words line
+    × (array-after (fresh-state first .state) es ≡ encode (run-wired direct (rest-end direct history rest) words .port))

@@ -1,0 +1,19 @@
+-- Every port grown from a fresh one has its numbers in the ranges of their declared types (capi's Round.antt), so its encoding decodes to it.
+-- Proved in proofs/Typed.antt.
+-- Assumes nothing.
+use mathlib.Core.Path.{_≡_}
+use Prim.Native.Nat.{ℕ}
+use mathlib.Core.List.{List}
+use Rattle.sci.specs.declared.Port.{Port}
+use Rattle.sci.specs.Calls.{Call, done, direct, run}
+use Rattle.sci.specs.Power.{fresh}
+use Rattle.capi.specs.Round.{PortTyped}
+
+unfoldable pub FreshTyped : Type 0
+FreshTyped = PortTyped fresh
+
+unfoldable pub KeepsTyped : Type 0
+KeepsTyped = (c : Call) (p q : Port) (v : ℕ) → PortTyped p → direct c p ≡ done v q → PortTyped q
+
+unfoldable pub GrownTyped : Type 0
+GrownTyped = (cs : List Call) → PortTyped (run fresh cs)
