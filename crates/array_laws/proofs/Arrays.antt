@@ -1,132 +1,196 @@
--- The claims of specs/Arrays.antt: one exported call on the encoding of a port that passes the field test and is typed, and then lists of them.
+-- The claims of specs/Arrays.antt: what one exported call makes of an array that holds a port, and then lists of them.
 -- Assumes nothing.
 use mathlib.Core.Path.{_≡_, refl, sym, ap, subst, _∙_}
+use mathlib.Core.Logic.{_⊎_, inl, inr}
 use Prim.Native.Nat.{ℕ}
 use mathlib.Core.Bool.{Bool, true, false, cond, _&&_}
 use mathlib.Core.List.{List, [], _∷_, _++_}
-use lib.Dec.{leb}
+use lib.Dec.{eqb, leb}
 use lib.ListN.{length}
-use borrow.Author.Tests.{eq-eqb, ne-eqb}
+use borrow.Author.Tests.{eq-eqb, eqb-true, ne-eqb}
+use Rattle.branches.proofs.Branches.{by-cond, both-arms}
 use Rattle.sci.specs.declared.Port.{Port}
-use Rattle.sci.specs.Calls.{Call, Answer, done, refused, after, direct}
+use Rattle.sci.specs.Calls.{Call, reads, writes, lets-pass, sets-line, sets-pins, sets-power, passes-inside, Answer, done, refused, after, direct, run}
 use Rattle.sci.specs.Power.{fresh}
 use Rattle.sci.specs.Valid.{valid}
-use Rattle.player.specs.Play.{Run, play}
+use Rattle.script.specs.Items.{items}
+use Rattle.player.specs.Play.{Run, ended, play-items, play}
 use Rattle.laws.specs.Laws.{Refused-stands}
-use Rattle.laws.specs.Ranges.{InRange, Answers-a-byte, Grown-in-range}
-use Rattle.laws.proofs.Laws.{direct-valid, run-valid, refused-stands}
-use Rattle.laws.proofs.Ranges.{direct-in-range, run-in-range, answers-a-byte, grown-in-range}
+use Rattle.laws.specs.Ranges.{Answers-a-byte}
+use Rattle.laws.proofs.Laws.{refused-stands}
+use Rattle.laws.proofs.Ranges.{answers-a-byte}
 use Rattle.recovery.specs.Layers.{CarriesOver, state-after}
-use Rattle.runs.specs.Runs.{Action, makes-call, plays-script, leaves, calls, played as commands-played, port-after, all-calls}
+use Rattle.runs.specs.Runs.{Action, makes-call, plays-script, leaves, calls, played as commands-played, port-after}
 use Rattle.runs.proofs.Runs.{runs-are-calls, eight-at-entry-only, actions-are-calls, scripts-recover}
-use Rattle.capi.specs.State.{a-port, decode, encode, port-max}
-use Rattle.capi.specs.Exports.{Lent, lent, refusal, command, answered, call-on, call, pins-on, pins-answer, interrupt-on, interrupt-answer, fresh-state, Playing, playing, play-on, played}
+use Rattle.capi.specs.State.{a-port, encode, port-max}
+use Rattle.capi.specs.Exports.{Lent, lent, refusal, command, answered, call-on, call, pins-on, pins-answer, interrupt-on, interrupt-answer, fresh-state, Playing, playing, run-left, play-on, played}
+use Rattle.capi.specs.Round.{PortTyped}
+use Rattle.capi.proofs.Answers.{late-test}
 use Rattle.capi.proofs.Round.{round-trip}
-use Rattle.array_laws.specs.Arrays.{Exported, sci3-call, sci3-play, array-left, array-after, action-of, actions, ArraysArePorts, ArraysAreCalls, Answers, ArraysAnswer, ArraysRecover}
-use Rattle.array_laws.proofs.Typed.{port-typed}
+use Rattle.array_laws.specs.Typed.{DecodedTyped, FreshTyped, KeepsTyped}
+use Rattle.array_laws.specs.Arrays.{Exported, sci3-call, sci3-play, array-left, array-after, action-of, actions, AllActionsExported, Holds, ArraysHoldPorts, ArraysArePorts, ArraysAreCalls, Answers, HoldingAnswers, ArraysAnswer, ArraysRecover}
+use Rattle.array_laws.proofs.Typed.{typed-in-range, fresh-typed, keeps-typed}
+use Rattle.array_laws.proofs.Decoded.{decoded-typed}
 
--- a port as every grown one is
-record Grown (p : Port) : Type 0 where
-  pub passes : valid p ≡ true
-  pub ranges : InRange p
+-- ---- every action is an exported call
+pub all-actions-exported : AllActionsExported
+unfolding AllActionsExported command
+all-actions-exported [] = refl
+all-actions-exported (makes-call (reads a) ∷ acts) = ap (λ (l : List Action). makes-call (reads a) ∷ l) (all-actions-exported acts)
+all-actions-exported (makes-call (writes a v) ∷ acts) = ap (λ (l : List Action). makes-call (writes a v) ∷ l) (all-actions-exported acts)
+all-actions-exported (makes-call (lets-pass n) ∷ acts) = ap (λ (l : List Action). makes-call (lets-pass n) ∷ l) (all-actions-exported acts)
+all-actions-exported (makes-call (sets-line b) ∷ acts) = ap (λ (l : List Action). makes-call (sets-line b) ∷ l) (all-actions-exported acts)
+all-actions-exported (makes-call (sets-pins c b) ∷ acts) = ap (λ (l : List Action). makes-call (sets-pins c b) ∷ l) (all-actions-exported acts)
+all-actions-exported (makes-call (sets-power b) ∷ acts) = ap (λ (l : List Action). makes-call (sets-power b) ∷ l) (all-actions-exported acts)
+all-actions-exported (makes-call passes-inside ∷ acts) = ap (λ (l : List Action). makes-call passes-inside ∷ l) (all-actions-exported acts)
+all-actions-exported (plays-script script log ∷ acts) = ap (λ (l : List Action). plays-script script log ∷ l) (all-actions-exported acts)
 
-back : (p : Port) → Grown p → decode (encode p) ≡ a-port p
-back p g = round-trip p (port-typed p (g .passes) (g .ranges))
+-- ---- one exported call on an array that holds a port
+-- the array t and the port q after it: as they were, or the encoding of the port
+abbrev Left : List ℕ → Port → List ℕ → Port → Type 0
+Left s p t q = ((t ≡ s) × (q ≡ p)) ⊎ (t ≡ encode q)
 
--- ---- one exported call
-module _ (p : Port) (g : Grown p) where
-  abbrev s : List ℕ
-  s = encode p
+-- a run that is refused by 8 leaves the port as it was
+at-8 : (p : Port) (script log : List ℕ) → play p script log .number ≡ 8 → play p script log .port ≡ p
+unfolding play
+at-8 p script log z = go (valid p) refl
+  where
+    go : (b : Bool) → valid p ≡ b → play p script log .port ≡ p
+    go true e = absurd (eight-at-entry-only p script log e z)
+    go false e = ap (λ (b : Bool). cond b (play-items p (items script 0) log) (ended 8 0 p log) .port) e
 
-  on-call : (kind a b : ℕ) → call kind a b s ≡ cond (leb 1 kind && leb kind 7) (answered s (direct (command kind a b) p)) (lent (refusal 7) s)
+module _ (s : List ℕ) (p : Port) (d : Holds s p) where
+  on-call : (kind a b : ℕ) → call kind a b s
+      ≡ cond (leb 1 kind && leb kind 7) (answered s (direct (command kind a b) p)) (cond (valid p) (lent (refusal 7) s) (lent (refusal 8) s))
   unfolding call
-  on-call kind a b =
-      ap (call-on kind a b s) (back p g)
-      ∙ ap (λ (v : Bool). cond v (cond (leb 1 kind && leb kind 7) (answered s (direct (command kind a b) p)) (lent (refusal 7) s)) (lent (refusal 8) s)) (g .passes)
+  on-call kind a b = ap (call-on kind a b s) d ∙ sym (late-test (command kind a b) (leb 1 kind && leb kind 7) s (lent (refusal 7) s) p)
 
-  on-play : (script log : List ℕ) → let r = play p script log in played s script log ≡ playing (r .number) (r .offset ∷ r .used ∷ []) (encode (r .port)) (r .log)
+  on-play : (script log : List ℕ) → played s script log ≡ run-left s (play p script log)
   unfolding played
-  on-play script log =
-      let r : Run = play p script log in
-      ap (play-on s script log) (back p g)
-      ∙ ap (λ (b : Bool). playing (r .number) (r .offset ∷ r .used ∷ []) (cond b s (encode (r .port))) (r .log)) (ne-eqb (r .number) 8 (eight-at-entry-only p script log (g .passes)))
+  on-play script log = ap (play-on s script log) d
 
-  answers : Answers s p
-  unfolding Answers-a-byte pins-answer interrupt-answer
-  answers =
+  answer-left : (c : Call) (r : Answer) → direct c p ≡ r → Left s p (answered s r .state) (after r)
+  unfolding Refused-stands
+  answer-left c (done v q) e = inr refl
+  answer-left c (refused n offset q) e = inl (refl, refused-stands c p q n offset e .0)
+
+  left : (e : Exported) → Left s p (array-left e s) (state-after leaves p (action-of e))
+  unfolding state-after
+  left (sci3-call kind a b) =
+      subst (λ (l : Lent). Left s p (l .state) (state-after leaves p (action-of (sci3-call kind a b)))) (sym (on-call kind a b)) (go (leb 1 kind && leb kind 7))
+    where
+      c : Call
+      c = command kind a b
+
+      unknown : Lent
+      unknown = cond (valid p) (lent (refusal 7) s) (lent (refusal 8) s)
+
+      go : (known : Bool) → Left s p (cond known (answered s (direct c p)) unknown .state) (state-after leaves p (cond known (makes-call c ∷ []) []))
+      go true = answer-left c (direct c p) refl
+      go false = both-arms (λ (l : Lent). Left s p (l .state) p) (valid p) (lent (refusal 7) s) (lent (refusal 8) s) (inl (refl, refl)) (inl (refl, refl))
+  left (sci3-play script log) =
+      let r : Run = play p script log in
+      subst (λ (l : Playing). Left s p (l .state) (r .port)) (sym (on-play script log))
+      (by-cond (λ (t : List ℕ). Left s p t (r .port)) (eqb (r .number) 8) s (encode (r .port)) (λ e. inl (refl, at-8 p script log (eqb-true (r .number) 8 e))) (λ e. inr refl))
+
+  answers : valid p ≡ true → Answers s p
+  unfolding DecodedTyped Answers-a-byte pins-answer interrupt-answer
+  answers e =
       record {
-        of-call = on-call;
-        of-read = λ c v q e. answers-a-byte c p q v (g .ranges) e;
-        of-play = on-play;
-        of-pins = ap pins-on (back p g);
-        of-interrupt = ap interrupt-on (back p g);
+        of-call = λ kind a b. on-call kind a b
+            ∙ ap (λ (v : Bool). cond (leb 1 kind && leb kind 7) (answered s (direct (command kind a b) p)) (cond v (lent (refusal 7) s) (lent (refusal 8) s))) e;
+        of-read = λ c v q h. answers-a-byte c p q v (typed-in-range p (decoded-typed s p d)) h;
+        of-play = λ script log. let r : Run = play p script log in
+            on-play script log
+            ∙ ap (λ (b : Bool). playing (r .number) (r .offset ∷ r .used ∷ []) (cond b s (encode (r .port))) (r .log)) (ne-eqb (r .number) 8 (eight-at-entry-only p script log e));
+        of-pins = ap pins-on d;
+        of-interrupt = ap interrupt-on d;
       }
 
-  -- a refused call leaves the array, and the port, as they were
-  state-of : (c : Call) (r : Answer) → direct c p ≡ r → answered s r .state ≡ encode (after r)
-  unfolding Refused-stands
-  state-of c (done v q) e = refl
-  state-of c (refused n offset q) e = ap encode (sym (refused-stands c p q n offset e .0))
+pub holding-answers : HoldingAnswers
+unfolding HoldingAnswers
+holding-answers s p d e = answers s p d e
 
-  left : (e : Exported) → array-left e s ≡ encode (state-after leaves p (action-of e))
-  unfolding state-after
-  left (sci3-call kind a b) = ap (λ (l : Lent). l .state) (on-call kind a b) ∙ go (leb 1 kind && leb kind 7)
-    where
-      go : (known : Bool) → cond known (answered s (direct (command kind a b) p)) (lent (refusal 7) s) .state ≡ encode (state-after leaves p (cond known (makes-call (command kind a b) ∷ []) []))
-      go true = state-of (command kind a b) (direct (command kind a b) p) refl
-      go false = refl
-  left (sci3-play script log) = ap (λ (l : Playing). l .state) (on-play script log)
+-- ---- actions keep a port typed
+after-typed : (c : Call) (p : Port) → PortTyped p → PortTyped (after (direct c p))
+unfolding KeepsTyped Refused-stands
+after-typed c p t = go (direct c p) refl
+  where
+    go : (r : Answer) → direct c p ≡ r → PortTyped (after r)
+    go (done v q) e = keeps-typed c p q v t e
+    go (refused n offset q) e = subst PortTyped (sym (refused-stands c p q n offset e .0)) t
 
--- ---- lists of them
-leaves-grown : (a : Action) (p : Port) → Grown p → Grown (leaves a p)
-leaves-grown (makes-call c) p g = record { passes = direct-valid c p (g .passes); ranges = direct-in-range c p (g .ranges) .ranges }
-leaves-grown (plays-script script log) p g =
-    let cs : List Call = calls (commands-played script (play p script log)) in
-    subst Grown (sym (runs-are-calls p script log .port)) (record { passes = run-valid cs p (g .passes); ranges = run-in-range cs p (g .ranges) })
+run-typed : (cs : List Call) (p : Port) → PortTyped p → PortTyped (run p cs)
+unfolding run
+run-typed [] p t = t
+run-typed (c ∷ cs) p t = run-typed cs (after (direct c p)) (after-typed c p t)
 
-after-grown : (acts : List Action) (p : Port) → Grown p → Grown (state-after leaves p acts)
+leaves-typed : (a : Action) (p : Port) → PortTyped p → PortTyped (leaves a p)
+leaves-typed (makes-call c) p t = after-typed c p t
+leaves-typed (plays-script script log) p t =
+    subst PortTyped (sym (runs-are-calls p script log .port)) (run-typed (calls (commands-played script (play p script log))) p t)
+
+actions-typed : (acts : List Action) (p : Port) → PortTyped p → PortTyped (state-after leaves p acts)
 unfolding state-after
-after-grown [] p g = g
-after-grown (a ∷ acts) p g = after-grown acts (leaves a p) (leaves-grown a p g)
+actions-typed [] p t = t
+actions-typed (a ∷ acts) p t = actions-typed acts (leaves a p) (leaves-typed a p t)
 
-after-append : (xs ys : List Action) (p : Port) → state-after leaves p (xs ++ ys) ≡ state-after leaves (state-after leaves p xs) ys
+-- ---- lists of exported calls
+actions-append : (xs ys : List Action) (p : Port) → state-after leaves p (xs ++ ys) ≡ state-after leaves (state-after leaves p xs) ys
 unfolding state-after
-after-append [] ys p = refl
-after-append (x ∷ xs) ys p = after-append xs ys (leaves x p)
+actions-append [] ys p = refl
+actions-append (x ∷ xs) ys p = actions-append xs ys (leaves x p)
 
-array-is : (es : List Exported) (p : Port) → Grown p → array-after (encode p) es ≡ encode (state-after leaves p (actions es))
+left-held : (s : List ℕ) (p : Port) (e : Exported) → Holds s p → Holds (array-left e s) (state-after leaves p (action-of e))
+unfolding DecodedTyped
+left-held s p e d = go (array-left e s) (state-after leaves p (action-of e)) (actions-typed (action-of e) p (decoded-typed s p d)) (left s p d e)
+  where
+    go : (t : List ℕ) (q : Port) → PortTyped q → Left s p t q → Holds t q
+    go t q ty (inl k) = subst (λ (x : List ℕ). Holds x q) (sym (k .0)) (d ∙ ap a-port (sym (k .1)))
+    go t q ty (inr k) = subst (λ (x : List ℕ). Holds x q) (sym k) (round-trip q ty)
+
+pub arrays-hold-ports : ArraysHoldPorts
+unfolding ArraysHoldPorts state-after
+arrays-hold-ports s p [] d = d
+arrays-hold-ports s p (e ∷ es) d =
+    subst (Holds (array-after (array-left e s) es)) (sym (actions-append (action-of e) (actions es) p))
+    (arrays-hold-ports (array-left e s) (state-after leaves p (action-of e)) es (left-held s p e d))
+
+-- an encoding stays one
+left-encoded : (p : Port) (e : Exported) → PortTyped p → array-left e (encode p) ≡ encode (state-after leaves p (action-of e))
+left-encoded p e t = go (array-left e (encode p)) (state-after leaves p (action-of e)) (left (encode p) p (round-trip p t) e)
+  where
+    go : (x : List ℕ) (q : Port) → Left (encode p) p x q → x ≡ encode q
+    go x q (inl k) = k .0 ∙ ap encode (sym (k .1))
+    go x q (inr k) = k
+
+array-is : (es : List Exported) (p : Port) → PortTyped p → array-after (encode p) es ≡ encode (state-after leaves p (actions es))
 unfolding state-after
-array-is [] p g = refl
-array-is (e ∷ es) p g =
-    let q : Port = state-after leaves p (action-of e) in
-    ap (λ (t : List ℕ). array-after t es) (left p g e) ∙ array-is es q (after-grown (action-of e) p g) ∙ ap encode (sym (after-append (action-of e) (actions es) p))
+array-is [] p t = refl
+array-is (e ∷ es) p t =
+    ap (λ (s : List ℕ). array-after s es) (left-encoded p e t)
+    ∙ array-is es (state-after leaves p (action-of e)) (actions-typed (action-of e) p t)
+    ∙ ap encode (sym (actions-append (action-of e) (actions es) p))
 
 -- ---- from `sci3_fresh` on
 first-is : (first : List ℕ) → length first ≡ length port-max → fresh-state first .state ≡ encode fresh
 unfolding fresh-state
 first-is first h = ap (λ (b : Bool). cond b (lent 0 (encode fresh)) (lent (refusal 8) first) .state) (eq-eqb (length first) (length port-max) h)
 
-grown-after : (acts : List Action) → Grown (port-after acts)
-unfolding Grown-in-range
-grown-after acts =
-    record { passes = actions-are-calls acts .passes; ranges = subst InRange (sym (actions-are-calls acts .port)) (grown-in-range (all-calls acts)) }
-
-fresh-grown : Grown fresh
-unfolding state-after
-fresh-grown = grown-after []
-
 pub arrays-are-ports : ArraysArePorts
-unfolding ArraysArePorts
-arrays-are-ports first es h = ap (λ (t : List ℕ). array-after t es) (first-is first h) ∙ array-is es fresh fresh-grown
+unfolding ArraysArePorts FreshTyped
+arrays-are-ports first es h = ap (λ (s : List ℕ). array-after s es) (first-is first h) ∙ array-is es fresh fresh-typed
 
 pub arrays-are-calls : ArraysAreCalls
 unfolding ArraysAreCalls ArraysArePorts
 arrays-are-calls first es h = arrays-are-ports first es h ∙ ap encode (actions-are-calls (actions es) .port)
 
 pub arrays-answer : ArraysAnswer
-unfolding ArraysAnswer ArraysArePorts
+unfolding ArraysAnswer ArraysArePorts FreshTyped
 arrays-answer first es h =
-    subst (λ (t : List ℕ). Answers t (port-after (actions es))) (sym (arrays-are-ports first es h)) (answers (port-after (actions es)) (grown-after (actions es)))
+    let p : Port = port-after (actions es) in
+    subst (λ (s : List ℕ). Answers s p) (sym (arrays-are-ports first es h))
+    (answers (encode p) p (round-trip p (actions-typed (actions es) fresh fresh-typed)) (actions-are-calls (actions es) .passes))
 
 pub arrays-recover : ArraysRecover
 unfolding ArraysRecover ArraysArePorts CarriesOver

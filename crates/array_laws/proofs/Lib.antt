@@ -1,2 +1,4 @@
 pub mod Typed
+pub mod Decoded
 pub mod Arrays
+pub mod Example

@@ -5,21 +5,22 @@
 -- Assumes nothing.
 use mathlib.Core.Path.{_≡_}
 use Prim.Native.Nat.{ℕ, _<_}
-use mathlib.Core.Bool.{cond, _&&_}
-use mathlib.Core.List.{List, [], _∷_, _++_}
+use mathlib.Core.Bool.{true, cond, _&&_}
+use mathlib.Core.List.{List, [], _∷_, _++_, map}
 use lib.Dec.{leb}
 use lib.ListN.{length}
 use Rattle.frame.specs.Frame.{one-if}
 use Rattle.sci.specs.declared.Port.{Port}
-use Rattle.sci.specs.Calls.{Call, done, direct, run}
+use Rattle.sci.specs.Calls.{Call, reads, writes, lets-pass, sets-line, sets-pins, sets-power, passes-inside, done, direct, run}
 use Rattle.sci.specs.Pins.{pins, interrupt}
 use Rattle.sci.specs.Power.{fresh}
+use Rattle.sci.specs.Valid.{valid}
 use Rattle.player.specs.Play.{play}
 use Rattle.recovery.specs.Line.{Item}
 use Rattle.recovery.specs.Layers.{Carried, state-after}
 use Rattle.recovery.specs.Recovery.{HistoryEnd, Rest, Words, rest-end, start, run as run-wired}
 use Rattle.runs.specs.Runs.{Action, makes-call, plays-script, leaves, counts-as, port-after, all-calls}
-use Rattle.capi.specs.State.{encode, port-max}
+use Rattle.capi.specs.State.{a-port, decode, encode, port-max}
 use Rattle.capi.specs.Exports.{lent, refusal, command, answered, call, pins-number, pins-answer, interrupt-answer, fresh-state, playing, played}
 
 -- ---- exported calls
@@ -45,8 +46,29 @@ abbrev pub actions : List Exported → List Action
 actions [] = []
 actions (e ∷ es) = action-of e ++ actions es
 
--- ---- the array is the port
--- `first` is the array when `sci3_fresh` is called, whatever it holds
+-- each action is one: the call of its kind, or the script
+abbrev pub exported : Action → Exported
+exported (makes-call (reads a)) = sci3-call 1 a 0
+exported (makes-call (writes a v)) = sci3-call 2 a v
+exported (makes-call (lets-pass n)) = sci3-call 3 n 0
+exported (makes-call (sets-line line)) = sci3-call 4 line 0
+exported (makes-call (sets-pins clock line)) = sci3-call 5 clock line
+exported (makes-call (sets-power b)) = sci3-call 6 b 0
+exported (makes-call passes-inside) = sci3-call 7 0 0
+exported (plays-script script log) = sci3-play script log
+
+unfoldable pub AllActionsExported : Type 0
+AllActionsExported = (acts : List Action) → actions (map exported acts) ≡ acts
+
+-- ---- the array holds the port
+-- an array that decodes to a port, as one that was stored and is lent again: it then decodes to the port after these actions
+abbrev pub Holds : List ℕ → Port → Type 0
+Holds s p = decode s ≡ a-port p
+
+unfoldable pub ArraysHoldPorts : Type 0
+ArraysHoldPorts = (s : List ℕ) (p : Port) (es : List Exported) → Holds s p → Holds (array-after s es) (state-after leaves p (actions es))
+
+-- after `sci3_fresh` it is the port's encoding, number for number; `first` is the array before, whatever it holds
 unfoldable pub ArraysArePorts : Type 0
 ArraysArePorts =
     (first : List ℕ) (es : List Exported) → length first ≡ length port-max
@@ -59,7 +81,7 @@ ArraysAreCalls =
     → array-after (fresh-state first .state) es ≡ encode (run fresh (all-calls (actions es)))
 
 -- ---- what is answered
--- by each export on an array s that holds the port p: never 8; and what a direct call on p, a run on p, the pins of p and its interrupt request are
+-- by each export on an array s that holds the port p: what a direct call on p, a run on p, the pins of p and its interrupt request are; never 8
 pub record Answers (s : List ℕ) (p : Port) : Type 0 where
   pub of-call : (kind a b : ℕ) → call kind a b s ≡ cond (leb 1 kind && leb kind 7) (answered s (direct (command kind a b) p)) (lent (refusal 7) s)
   -- below 256, so that no value is taken for a refusal
@@ -68,6 +90,10 @@ pub record Answers (s : List ℕ) (p : Port) : Type 0 where
   pub of-pins : pins-answer s ≡ pins-number (pins p)
   pub of-interrupt : interrupt-answer s ≡ one-if (interrupt p)
 
+unfoldable pub HoldingAnswers : Type 0
+HoldingAnswers = (s : List ℕ) (p : Port) → Holds s p → valid p ≡ true → Answers s p
+
+-- from `sci3_fresh` on always
 unfoldable pub ArraysAnswer : Type 0
 ArraysAnswer =
     (first : List ℕ) (es : List Exported) → length first ≡ length port-max

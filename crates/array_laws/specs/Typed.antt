@@ -1,4 +1,5 @@
--- Every port grown from a fresh one has its numbers in the ranges of their declared types (capi's Round.antt), so its encoding decodes to it.
+-- Every port that an array holds, and every port grown from a fresh one, has its numbers in the ranges of their declared types (capi's Round.antt), so its
+-- encoding decodes to it.
 -- Proved in proofs/Typed.antt.
 -- Assumes nothing.
 use mathlib.Core.Path.{_≡_}
@@ -7,7 +8,11 @@ use mathlib.Core.List.{List}
 use Rattle.sci.specs.declared.Port.{Port}
 use Rattle.sci.specs.Calls.{Call, done, direct, run}
 use Rattle.sci.specs.Power.{fresh}
+use Rattle.capi.specs.State.{a-port, decode}
 use Rattle.capi.specs.Round.{PortTyped}
+
+unfoldable pub DecodedTyped : Type 0
+DecodedTyped = (s : List ℕ) (p : Port) → decode s ≡ a-port p → PortTyped p
 
 unfoldable pub FreshTyped : Type 0
 FreshTyped = PortTyped fresh

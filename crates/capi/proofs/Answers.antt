@@ -46,7 +46,7 @@ pub answered-of : (z : Lent) (s : List ℕ) (x : Called) (c : Call) (p q : Port)
 answered-of z s x c p q h k e = h ∙ ap (answered s) (k ∙ ap (direct c) e)
 
 -- the direct call tests 8 itself, so it may come before the test of the kind
-late-test : (c : Call) (known : Bool) (s : List ℕ) (x : Lent) (p : Port)
+pub late-test : (c : Call) (known : Bool) (s : List ℕ) (x : Lent) (p : Port)
     → cond known (answered s (direct c p)) (cond (valid p) x (lent (refusal 8) s)) ≡ cond (valid p) (cond known (answered s (direct c p)) x) (lent (refusal 8) s)
 unfolding direct
 late-test c known s x p = go known (valid p)
