@@ -28,7 +28,7 @@ use Rattle.capi.specs.Round.{PortTyped}
 use Rattle.capi.proofs.Answers.{late-test}
 use Rattle.capi.proofs.Round.{round-trip}
 use Rattle.array_laws.specs.Typed.{DecodedTyped, FreshTyped, KeepsTyped}
-use Rattle.array_laws.specs.Arrays.{Exported, sci3-call, sci3-play, array-left, array-after, action-of, actions, AllActionsExported, Holds, ArraysHoldPorts, ArraysArePorts, ArraysAreCalls, Answers, HoldingAnswers, ArraysAnswer, ArraysRecover}
+use Rattle.array_laws.specs.Arrays.{Exported, sci3-call, sci3-play, array-left, array-after, action-of, actions, AllActionsExported, Holds, ArraysHoldPorts, ArraysArePorts, ArraysAreCalls, Answers, HoldingAnswers, FailingRefused, ArraysAnswer, ArraysRecover}
 use Rattle.array_laws.proofs.Typed.{typed-in-range, fresh-typed, keeps-typed}
 use Rattle.array_laws.proofs.Decoded.{decoded-typed}
 
@@ -110,6 +110,14 @@ module _ (s : List ℕ) (p : Port) (d : Holds s p) where
 pub holding-answers : HoldingAnswers
 unfolding HoldingAnswers
 holding-answers s p d e = answers s p d e
+
+pub failing-refused : FailingRefused
+unfolding FailingRefused call play
+failing-refused s p d e = (
+  λ kind a b. ap (call-on kind a b s) d
+      ∙ ap (λ (v : Bool). cond v (cond (leb 1 kind && leb kind 7) (answered s (direct (command kind a b) p)) (lent (refusal 7) s)) (lent (refusal 8) s)) e,
+  λ script log. on-play s p d script log ∙ ap (λ (v : Bool). run-left s (cond v (play-items p (items script 0) log) (ended 8 0 p log))) e,
+)
 
 -- ---- actions keep a port typed
 after-typed : (c : Call) (p : Port) → PortTyped p → PortTyped (after (direct c p))

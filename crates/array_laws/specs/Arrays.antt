@@ -5,7 +5,7 @@
 -- Assumes nothing.
 use mathlib.Core.Path.{_≡_}
 use Prim.Native.Nat.{ℕ, _<_}
-use mathlib.Core.Bool.{true, cond, _&&_}
+use mathlib.Core.Bool.{true, false, cond, _&&_}
 use mathlib.Core.List.{List, [], _∷_, _++_, map}
 use lib.Dec.{leb}
 use lib.ListN.{length}
@@ -93,7 +93,13 @@ pub record Answers (s : List ℕ) (p : Port) : Type 0 where
 unfoldable pub HoldingAnswers : Type 0
 HoldingAnswers = (s : List ℕ) (p : Port) → Holds s p → valid p ≡ true → Answers s p
 
--- from `sci3_fresh` on always
+-- on an array whose port fails the field test: 8, whatever the kind or the script, and nothing is written
+unfoldable pub FailingRefused : Type 0
+FailingRefused =
+    (s : List ℕ) (p : Port) → Holds s p → valid p ≡ false
+    → ((kind a b : ℕ) → call kind a b s ≡ lent (refusal 8) s) × ((script log : List ℕ) → played s script log ≡ playing 8 (0 ∷ 0 ∷ []) s log)
+
+-- from `sci3_fresh` on the first of the two always
 unfoldable pub ArraysAnswer : Type 0
 ArraysAnswer =
     (first : List ℕ) (es : List Exported) → length first ≡ length port-max

@@ -1,4 +1,5 @@
--- Decoding what was encoded gives the port back: of every port whose numbers are in the ranges of their declared types, as those of a running program are.
+-- Decoding what was encoded gives the port back: of every port whose numbers are in the ranges of their declared types, as are those of every port that an
+-- array holds and of every port grown from a fresh one (array_laws' Typed.antt).
 -- Assumes nothing.
 use mathlib.Core.Path.{_≡_}
 use Prim.Native.Nat.{_≤_, _<_}
