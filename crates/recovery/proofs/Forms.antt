@@ -3,7 +3,7 @@
 -- Assumes nothing.
 use mathlib.Core.Path.{_≡_, refl, sym, ap, _∙_, subst}
 use Prim.Native.Nat.{ℕ, zero, suc, _+_}
-use mathlib.Core.Bool.{Bool, true, false, not, cond, _&&_, _||_, true≢false, false≢true}
+use mathlib.Core.Bool.{Bool, true, false, not, cond, _&&_, _||_, true≢false}
 use mathlib.Core.List.{List, [], _∷_}
 use lib.Dec.{eqb, leb}
 use lib.Bits.{bitAnd}
@@ -45,16 +45,16 @@ use Rattle.recovery.proofs.View.{View, fall, v-advance, v-advance-on, v
 abbrev Said : Type 1
 Said = Format → Bool → Receiver → Type 0
 
-abbrev After : Said → Format → Bool → Sampled → Type 0
-After Q f on Dropped = Unit {0}
-After Q f on (Onward r) = Q f on (Busy r)
-After Q f on (Whole r) = Unit {0}
+abbrev AfterSample : Said → Format → Bool → Sampled → Type 0
+AfterSample Q f on Dropped = Unit {0}
+AfterSample Q f on (Onward r) = Q f on (Busy r)
+AfterSample Q f on (Whole r) = Unit {0}
 
 -- it is kept where a word goes, begins, is sampled, or takes a bit
 record Kept (Q : Said) : Type 0 where
   pub goes : (f : Format) (on : Bool) (x : Receiver) → Q f on x → Q f on Idle
   pub begins : (f : Format) (on : Bool) (t : ℕ) → on ≡ true → f .synchronous ≡ false → Q f on Idle → Q f on (Busy (armed f t))
-  pub sampled : (f : Format) (on high : Bool) (h : ℕ) (r : Rx) → Q f on (Busy r) → After Q f on (sample f high h r)
+  pub sampled : (f : Format) (on high : Bool) (h : ℕ) (r : Rx) → Q f on (Busy r) → AfterSample Q f on (sample f high h r)
   pub clocked : (f : Format) (on high : Bool) → on ≡ true → f .synchronous ≡ true → Q f on Idle → Q f on (Busy (bit-taken high (clocked-word f)))
   pub taken : (f : Format) (on high : Bool) (r : Rx) → Q f on (Busy r) → Q f on (Busy (bit-taken high r))
 
@@ -84,7 +84,7 @@ module _ (Q : Said) (k : Kept Q) where
   complete-in : (v : View) (r : Rx) → In v → In (v-complete v r)
   complete-in v r t = by-cond In (has (v .flags) 0x40) _ _ (λ e. t) (λ e. by-cond In (eqb (r .error) 0) _ _ (λ g. t) (λ g. t))
 
-  outcome-in : (o : Sampled) (v : View) → In v → After Q (v .fmt) (v .on) o → In (v-outcome o v)
+  outcome-in : (o : Sampled) (v : View) → In v → AfterSample Q (v .fmt) (v .on) o → In (v-outcome o v)
   outcome-in Dropped v t g = k .goes (v .fmt) (v .on) (v .rx) t
   outcome-in (Onward r) v t g = g
   outcome-in (Whole r) v t g = complete-in (v-rx v Idle) r (k .goes (v .fmt) (v .on) (v .rx) t)
@@ -273,15 +273,15 @@ module _ (Q : Said) (k : Kept Q) where
       Stores r = ((a v : ℕ) → c ≡ writes a v → accepted r ≡ true → Of (stored a v p)) → OfAfter r
 
 -- ---- with RE clear the receiver holds no word
-abbrev Off : Said
-Off f on x = on ≡ false → x ≡ Idle
+abbrev EmptyIfOff : Said
+EmptyIfOff f on x = on ≡ false → x ≡ Idle
 
 abbrev busy : Receiver → Bool
 busy Idle = false
 busy (Busy r) = true
 
-off-kept : Kept Off
-off-kept =
+empty-if-off : Kept EmptyIfOff
+empty-if-off =
     record {
       goes = λ f on x q e. refl;
       begins = λ f on t o c q e. absurd (true≢false (sym o ∙ e));
@@ -290,26 +290,26 @@ off-kept =
       taken = λ f on high r q e. absurd (true≢false (ap busy (q e)));
     }
   where
-    go : (f : Format) (on : Bool) (r : Rx) → Off f on (Busy r) → (o : Sampled) → After Off f on o
+    go : (f : Format) (on : Bool) (r : Rx) → EmptyIfOff f on (Busy r) → (o : Sampled) → AfterSample EmptyIfOff f on o
     go f on r q Dropped = tt
     go f on r q (Onward r′) = λ e. absurd (true≢false (ap busy (q e)))
     go f on r q (Whole r′) = tt
 
-off-stored : (a v : ℕ) (p : Port) → Of Off off-kept p → Of Off off-kept (stored a v p)
-off-stored a v p t =
-    of-stored Off off-kept a v p t (of-scr Off off-kept v p (λ e q. absurd (true≢false (sym e ∙ has-mask v 0xf7 0x10 refl ∙ q))) (λ e. refl)) (λ e. t) t
+empty-if-off-stored : (a v : ℕ) (p : Port) → Of EmptyIfOff empty-if-off p → Of EmptyIfOff empty-if-off (stored a v p)
+empty-if-off-stored a v p t =
+    of-stored EmptyIfOff empty-if-off a v p t (of-scr EmptyIfOff empty-if-off v p (λ e q. absurd (true≢false (sym e ∙ has-mask v 0xf7 0x10 refl ∙ q))) (λ e. refl)) (λ e. t) t
 
-off-run : (cs : List Call) (p : Port) → Of Off off-kept p → Of Off off-kept (port-run p cs)
+empty-if-off-run : (cs : List Call) (p : Port) → Of EmptyIfOff empty-if-off p → Of EmptyIfOff empty-if-off (port-run p cs)
 unfolding port-run
-off-run [] p t = t
-off-run (c ∷ cs) p t = off-run cs (after (direct c p)) (of-direct Off off-kept c p t (λ e. refl) (λ a v e g. off-stored a v p t))
+empty-if-off-run [] p t = t
+empty-if-off-run (c ∷ cs) p t = empty-if-off-run cs (after (direct c p)) (of-direct EmptyIfOff empty-if-off c p t (λ e. refl) (λ a v e g. empty-if-off-stored a v p t))
 
 -- ---- in start-stop form the receiver takes no word of clocked form
-abbrev StartStop : Said
-StartStop f on x = (f .synchronous ≡ false) × (rx-clocked x ≡ false)
+abbrev NoneClocked : Said
+NoneClocked f on x = (f .synchronous ≡ false) × (rx-clocked x ≡ false)
 
-start-stop-kept : Kept StartStop
-start-stop-kept =
+none-clocked : Kept NoneClocked
+none-clocked =
     record {
       goes = λ f on x q. (q .0, refl);
       begins = λ f on t o c q. (c, c);
@@ -318,33 +318,33 @@ start-stop-kept =
       taken = λ f on high r q. q;
     }
   where
-    go : (f : Format) (on : Bool) → f .synchronous ≡ false → (o : Sampled) → OutcomePlain o → After StartStop f on o
+    go : (f : Format) (on : Bool) → f .synchronous ≡ false → (o : Sampled) → OutcomePlain o → AfterSample NoneClocked f on o
     go f on q Dropped t = tt
     go f on q (Onward r) t = (q, t)
     go f on q (Whole r) t = tt
 
-start-stop-stored : (a v : ℕ) (p : Port) → (eqb a 0xff98 ≡ true → has v 0x80 ≡ false) → Of StartStop start-stop-kept p → Of StartStop start-stop-kept (stored a v p)
+none-clocked-stored : (a v : ℕ) (p : Port) → (eqb a 0xff98 ≡ true → has v 0x80 ≡ false) → Of NoneClocked none-clocked p → Of NoneClocked none-clocked (stored a v p)
 unfolding format
-start-stop-stored a v p s t =
-    of-stored StartStop start-stop-kept a v p t (of-scr StartStop start-stop-kept v p (λ e. t) (t .0, refl)) (λ e. (s e, t .1)) t
+none-clocked-stored a v p s t =
+    of-stored NoneClocked none-clocked a v p t (of-scr NoneClocked none-clocked v p (λ e. t) (t .0, refl)) (λ e. (s e, t .1)) t
 
-start-stop-call : (c : Call) (p : Port) → keeps-start-stop c (direct c p) → Of StartStop start-stop-kept p → Of StartStop start-stop-kept (after (direct c p))
+none-clocked-call : (c : Call) (p : Port) → keeps-start-stop c (direct c p) → Of NoneClocked none-clocked p → Of NoneClocked none-clocked (after (direct c p))
 unfolding format
-start-stop-call c p s t =
-    of-direct StartStop start-stop-kept c p t (refl, refl)
-    (λ a v e g. start-stop-stored a v p (subst (λ (x : Call). keeps-start-stop x (direct x p)) e s (subst (λ (x : Call). accepted (direct x p) ≡ true) e g)) t)
+none-clocked-call c p s t =
+    of-direct NoneClocked none-clocked c p t (refl, refl)
+    (λ a v e g. none-clocked-stored a v p (subst (λ (x : Call). keeps-start-stop x (direct x p)) e s (subst (λ (x : Call). accepted (direct x p) ≡ true) e g)) t)
 
-start-stop-run : (cs : List Call) (s : Wired) → each direct (λ c a q. keeps-start-stop c a) s cs → Of StartStop start-stop-kept (s .port)
-    → Of StartStop start-stop-kept (run direct s cs .port)
+none-clocked-run : (cs : List Call) (s : Wired) → each direct (λ c a q. keeps-start-stop c a) s cs → Of NoneClocked none-clocked (s .port)
+    → Of NoneClocked none-clocked (run direct s cs .port)
 unfolding run
-start-stop-run [] s e t = t
-start-stop-run (c ∷ cs) s e t = start-stop-run cs (step c (direct c (s .port)) s) (e .1) (start-stop-call c (s .port) (e .0) t)
+none-clocked-run [] s e t = t
+none-clocked-run (c ∷ cs) s e t = none-clocked-run cs (step c (direct c (s .port)) s) (e .1) (none-clocked-call c (s .port) (e .0) t)
 
 -- start-stop form since RE was clear: no clocked word
 pub no-clocked-word : (calls : List Call) → StartStopSince direct calls → rx-clocked (run direct start calls .port .rx) ≡ false
 unfolding fresh format
 no-clocked-word calls s =
     let q : Wired = run direct start (s .before) in
-    let idle : q .port .rx ≡ Idle = subst (Of Off off-kept) (run-is (s .before) start) (off-run (s .before) fresh (λ e. refl)) (s .re-clear) in
+    let idle : q .port .rx ≡ Idle = subst (Of EmptyIfOff empty-if-off) (run-is (s .before) start) (empty-if-off-run (s .before) fresh (λ e. refl)) (s .re-clear) in
     ap (λ (cs : List Call). rx-clocked (run direct start cs .port .rx)) (s .split) ∙ ap (λ (w : Wired). rx-clocked (w .port .rx)) (run-append direct (s .before) (s .since) start)
-    ∙ start-stop-run (s .since) q (s .kept) (s .start-stop, ap rx-clocked idle) .1
+    ∙ none-clocked-run (s .since) q (s .kept) (s .start-stop, ap rx-clocked idle) .1

@@ -14,7 +14,6 @@ use Rattle.frame.specs.Frame.{one-if, stop}
 use Rattle.sci.specs.Baud.{format-of}
 use Rattle.sci.specs.Calls.{Call, direct}
 use Rattle.words.specs.Receiver.{rx-clocked}
-use Rattle.frame.proofs.Laws.{one-if≤}
 use Rattle.recovery.specs.Corollaries.{Demand, halves-in}
 use Rattle.recovery.specs.Line.{Count, Event, Item, count-after, half-passes, mark, none-yet, other, rdr-read, span, stop-cells-begun, stop-cells-passed, word-of}
 use Rattle.recovery.specs.Outside.{OutsideIsEnough, ReadAfter, ReadBetween, RecoversOutside, RestOutside, WordsOutside}
@@ -76,14 +75,14 @@ at-moment : (first : Port) (items : List Item) (xs ys : List Moment) (m : Moment
 at-moment first items [] ys m c t = t .0
 at-moment first items (x ∷ xs) ys m c t = at-moment first items xs ys m (count-after c (x .event)) (t .1)
 
-first-part : (first : Port) (items : List Item) (xs ys : List Moment) (c : Count) → throughout first items c (xs ++ ys) → throughout first items c xs
-first-part first items [] ys c t = tt
-first-part first items (x ∷ xs) ys c t = (t .0, first-part first items xs ys (count-after c (x .event)) (t .1))
+throughout-first-part : (first : Port) (items : List Item) (xs ys : List Moment) (c : Count) → throughout first items c (xs ++ ys) → throughout first items c xs
+throughout-first-part first items [] ys c t = tt
+throughout-first-part first items (x ∷ xs) ys c t = (t .0, throughout-first-part first items xs ys (count-after c (x .event)) (t .1))
 
-one-more : (first : Port) (items : List Item) (xs : List Moment) (m : Moment) (c : Count) → throughout first items c xs
+throughout-one-more : (first : Port) (items : List Item) (xs : List Moment) (m : Moment) (c : Count) → throughout first items c xs
     → Holds first items (count-after (counts c xs) (m .event)) m → throughout first items c (xs ++ (m ∷ []))
-one-more first items [] m c t h = (h, tt)
-one-more first items (x ∷ xs) m c t h = (t .0, one-more first items xs m (count-after c (x .event)) (t .1) h)
+throughout-one-more first items [] m c t h = (h, tt)
+throughout-one-more first items (x ∷ xs) m c t h = (t .0, throughout-one-more first items xs m (count-after c (x .event)) (t .1) h)
 
 -- ---- first stop cells begun only grow
 begun-grows : (f : Format) (is : List Item) (j k : ℕ) → j ≤ k → stop-cells-begun f is j ≤ stop-cells-begun f is k
@@ -106,21 +105,21 @@ is-half (half-passes m b) = true
 is-half (rdr-read a) = false
 is-half other = false
 
-read-first : (before later past ms : List Moment) (r h : Moment) → before ++ (r ∷ later) ≡ past ++ (h ∷ ms) → is-half (r .event) ≡ false → is-half (h .event) ≡ true
+read-stands-first : (before later past ms : List Moment) (r h : Moment) → before ++ (r ∷ later) ≡ past ++ (h ∷ ms) → is-half (r .event) ≡ false → is-half (h .event) ≡ true
     → halves-in before ≤ halves-in past → (mid : List Moment) × (past ≡ before ++ (r ∷ mid))
 unfolding levels
-read-first [] later [] ms r h e n y l = absurd (true≢false (sym y ∙ ap (λ (m : Moment). is-half (m .event)) (sym (head-eq-of-cons-eq e)) ∙ n))
-read-first [] later (x ∷ past) ms r h e n y l = (past, ap (λ (m : Moment). m ∷ past) (sym (head-eq-of-cons-eq e)))
-read-first (b ∷ before) later [] ms r h e n y l = go (b .event) (ap (λ (m : Moment). is-half (m .event)) (head-eq-of-cons-eq e) ∙ y) l
+read-stands-first [] later [] ms r h e n y l = absurd (true≢false (sym y ∙ ap (λ (m : Moment). is-half (m .event)) (sym (head-eq-of-cons-eq e)) ∙ n))
+read-stands-first [] later (x ∷ past) ms r h e n y l = (past, ap (λ (m : Moment). m ∷ past) (sym (head-eq-of-cons-eq e)))
+read-stands-first (b ∷ before) later [] ms r h e n y l = go (b .event) (ap (λ (m : Moment). is-half (m .event)) (head-eq-of-cons-eq e) ∙ y) l
   where
     go : (x : Event) → is-half x ≡ true → length (level-of x (levels before)) ≤ 0 → (mid : List Moment) × ([] ≡ (b ∷ before) ++ (r ∷ mid))
     go (half-passes m d) q k = let z : ⊥ = omega arith in absurd z
     go (rdr-read a) q k = absurd (false≢true q)
     go other q k = absurd (false≢true q)
-read-first (b ∷ before) later (x ∷ past) ms r h e n y l =
+read-stands-first (b ∷ before) later (x ∷ past) ms r h e n y l =
     let same : b ≡ x = head-eq-of-cons-eq e in
     let m : (mid : List Moment) × (past ≡ before ++ (r ∷ mid))
-    = read-first before later past ms r h (tail-eq-of-cons-eq e) n y (go (x .event) (subst (λ (k : Moment). length (level-of (k .event) (levels before)) ≤ length (level-of (x .event) (levels past))) same l)) in
+    = read-stands-first before later past ms r h (tail-eq-of-cons-eq e) n y (go (x .event) (subst (λ (k : Moment). length (level-of (k .event) (levels before)) ≤ length (level-of (x .event) (levels past))) same l)) in
     (m .0, ap (λ (k : Moment). k ∷ past) (sym same) ∙ ap (λ (k : List Moment). b ∷ k) (m .1))
   where
     go : (v : Event) → length (level-of v (levels before)) ≤ length (level-of v (levels past)) → halves-in before ≤ halves-in past
@@ -156,10 +155,10 @@ module _ (first : Port) (items : List Item) (all : List Moment) (rd : ReadBetwee
         more : suc (halves-in past) ≤ halves-in all
         more = omega (arith, ap halves-in e, levels-append past (h ∷ ms), half-more (h .event) y)
 
-    was-read : (r : ReadAfter (format-of first) items all (counts none-yet past .completions)) → counts none-yet past .unread ≡ false
-    was-read r =
+    finds-read : (r : ReadAfter (format-of first) items all (counts none-yet past .completions)) → counts none-yet past .unread ≡ false
+    finds-read r =
         let m : (mid : List Moment) × (past ≡ r .before ++ (r .read ∷ mid))
-        = read-first (r .before) (r .later) past ms (r .read) h (sym (r .split) ∙ e) (ap is-half (r .of-rdr)) y (not-later (halves-in (r .before)) (r .begun)) in
+        = read-stands-first (r .before) (r .later) past ms (r .read) h (sym (r .split) ∙ e) (ap is-half (r .of-rdr)) y (not-later (halves-in (r .before)) (r .begun)) in
         let c : Count = counts none-yet (r .before) in
         let same : counts none-yet past ≡ counts (count-after c (rdr-read (r .answer))) (m .0)
         = ap (counts none-yet) (m .1) ∙ counts-append (r .before) (r .read ∷ m .0) none-yet ∙ ap (λ (x : Event). counts (count-after c x) (m .0)) (r .of-rdr) in
@@ -177,7 +176,7 @@ module _ (first : Port) (items : List Item) (all : List Moment) (rd : ReadBetwee
       where
         go : (n : ℕ) → counts none-yet past .completions ≡ n → counts none-yet past .unread ≡ false
         go zero q = stays-read past none-yet refl q
-        go (suc n) q = was-read (rd (counts none-yet past .completions) (omega arith) reached)
+        go (suc n) q = finds-read (rd (counts none-yet past .completions) (omega arith) reached)
 
   -- the moments that have been, with what holds of them: known of those to come
   record Past (c : Count) (ms : List Moment) : Type 0 where
@@ -199,7 +198,7 @@ module _ (first : Port) (items : List Item) (all : List Moment) (rd : ReadBetwee
               past = s .past ++ (m ∷ []);
               split = s .split ∙ sym (append-assoc (s .past) (m ∷ []) ms);
               count = counts-append (s .past) (m ∷ []) none-yet ∙ ap (λ (k : Count). count-after k (m .event)) (s .count);
-              held = one-more first items (s .past) m none-yet (s .held) (subst (λ (k : Count). Holds first items (count-after k (m .event)) m) (sym (s .count)) h);
+              held = throughout-one-more first items (s .past) m none-yet (s .held) (subst (λ (k : Count). Holds first items (count-after k (m .event)) m) (sym (s .count)) h);
             };
       }
 
@@ -208,7 +207,7 @@ module _ (first : Port) (items : List Item) (all : List Moment) (rd : ReadBetwee
     read-at : (past ms : List Moment) (m : Moment) → all ≡ past ++ (m ∷ ms) → read-before (m .event) (counts none-yet past)
     read-at past ms m e =
         let u : throughout first items none-yet (past ++ (m ∷ ms)) = subst (throughout first items none-yet) e t in
-        go (m .event) refl (at-moment first items past ms m none-yet u .most) (first-part first items past (m ∷ ms) none-yet u)
+        go (m .event) refl (at-moment first items past ms m none-yet u .most) (throughout-first-part first items past (m ∷ ms) none-yet u)
       where
         go : (x : Event) → m .event ≡ x → count-after (counts none-yet past) (m .event) .completions ≤ stop-cells-begun (format-of first) items (count-after (counts none-yet past) (m .event) .halves)
             → throughout first items none-yet past → read-before x (counts none-yet past)

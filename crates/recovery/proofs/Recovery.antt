@@ -11,7 +11,7 @@ use Rattle.sci.specs.Calls.{Call, direct}
 use Rattle.laws.proofs.Laws.{fresh-passes}
 use Rattle.laws.specs.Laws.{Fresh-passes}
 use Rattle.recovery.specs.Line.{Item, none-yet, prefix, signal}
-use Rattle.recovery.specs.Recovery.{HistoryEnd, Moment, Recovers, Rest, Wired, Words, allowed-in-words, each, levels, run, separated, start, throughout, trace}
+use Rattle.recovery.specs.Recovery.{HistoryEnd, Moment, Recovers, Rest, Wired, allowed-in-words, each, levels, run, separated, start, throughout, trace}
 use Rattle.recovery.proofs.Bridge.{Grown, grown-run, never-by-8, rest-calls, run-is, trace-is, words-calls}
 use Rattle.recovery.proofs.LineFold.{lined-start}
 use Rattle.recovery.proofs.Once.{once-each}

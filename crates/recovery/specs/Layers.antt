@@ -1,6 +1,6 @@
 -- How demand 3 carries over to what stands above the port: a script's commands, exported calls on an array, anything whose commands come to direct calls on
 -- one port. `Recovers` (Recovery.antt) is about lists of direct calls; here the list is the one that such commands make, one command after the other.
--- Proved in proofs/Layers.antt, once for all layers.
+-- Proved in proofs/Layers.antt, once for all layers. (Outside.antt has conditions that a caller can check, from which `Rest` and `Words` follow.)
 -- Assumes nothing.
 use mathlib.Core.Path.{_≡_}
 use mathlib.Core.List.{List, [], _∷_, _++_}

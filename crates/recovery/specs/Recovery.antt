@@ -1,7 +1,8 @@
 -- Demand 3 (document 01, "Healing") as one claim, `Recovers`, at the end of this file. It is about lists of direct calls on one port, and the port is
 -- known by its answers only: `direct`, one direct call, is any function from a call and a port to an answer. `Recovers direct` is proved of the real
--- port (proofs/Recovery.antt, `recovery`), and disproved of ports that fall short (NearMisses.antt); Corollaries.antt has the demand sentence by sentence;
--- proofs/Example.antt has a list, with a noisy history, that meets all that is asked.
+-- port (proofs/Recovery.antt, `recovery`), and disproved of ports that fall short (NearMisses.antt); Corollaries.antt has the demand sentence by sentence,
+-- Outside.antt conditions that a caller can check, Layers.antt how it carries over to scripts and exported calls; proofs/Example.antt has a list, with a noisy
+-- history, that meets all that is asked.
 -- The words of document 01 are in quotation marks. Where the claim is stronger than they are, a comment says so.
 -- Of frame and sci: `has x m` says that x has a bit of the mask m, `differ` that exactly one of two holds, `bit n` that n is not 0; `after a` is the port that
 -- the answer a hands back; `internal p`: the port p runs on its internal clock; `format-of p`: the format of its SMR and SEMR.
