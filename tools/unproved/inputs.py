@@ -88,16 +88,16 @@ def word_of(form, value):
 
 
 def busy(r, state):
-    """A sender or a receiver that passes the field test, whether or not a run leads there."""
+    """A sender or a receiver that passes the field test, whether or not a run leads there, or whose cell or position just fails it."""
     form, half = a_format(r), state[PLACE["half"]]
     due = [int(not form[0]), 0 if form[0] else half + r.choice((1, 2, 16, 448))]
     if r.random() < 0.5:
         tag = r.choice((1, 1, 2, 3, 4, 5))
-        cell = r.randrange(8 if form[0] else 1 + form[1] + form[2]) if tag == 4 else 0
+        cell = r.randrange(9 if form[0] else 2 + form[1] + form[2]) if tag == 4 else 0
         due = [0, 0] if tag == 1 else [1, half + r.choice((1, 32, 448))] if tag < 4 else due
         state[PLACE["tx.tag"]:PLACE["tx.loaded"] + 1] = [tag, *form, word_of(form, r.choice(BYTES)), cell, *due, int(tag == 5)]
     else:
-        position = r.randrange(0, 8) if form[0] else r.randrange(-2, form[1] + form[2] + 1)
+        position = r.randrange(-1, 9) if form[0] else r.randrange(-3, form[1] + form[2] + 2)
         state[PLACE["rx.tag"]:PLACE["rx.next"] + 1] = [1, *form, r.choice(BYTES), position + 128, r.randrange(2), r.choice((0, 0, 8)), *due]
 
 
