@@ -390,7 +390,11 @@ fn ask_script(op: u8, s: &[u8], bytes: &[u8], out: &mut [u8]) -> usize {
     let mut whole = [0xAAu8; 64];
     match op {
         9 => put_number_read(out, 0, script::read_number(bytes, number(s, 0) as usize)),
-        10 => put_number_read(out, 0, script::read_operand(bytes, number(s, 0) as usize, word(s, 1))),
+        10 => put_number_read(
+            out,
+            0,
+            script::read_operand(bytes, number(s, 0) as usize, word(s, 1)),
+        ),
         11 => put_operands(out, 0, script::operands_of(word(s, 0))),
         12 => put_decoded(out, 0, script::read_command(bytes, number(s, 0) as usize)),
         13 => put(out, 0, fault_of(number(s, 0)).number() as u64),
@@ -405,7 +409,15 @@ fn ask_script(op: u8, s: &[u8], bytes: &[u8], out: &mut [u8]) -> usize {
             let got = script::write_command(buf, number(s, 1) as usize, command_of(s, 2));
             put_written(out, 0, got, buf)
         }
-        _ => put_flag(out, 0, store::fits(number(s, 0) as usize, number(s, 1) as usize, number(s, 2) as usize)),
+        _ => put_flag(
+            out,
+            0,
+            store::fits(
+                number(s, 0) as usize,
+                number(s, 1) as usize,
+                number(s, 2) as usize,
+            ),
+        ),
     }
 }
 

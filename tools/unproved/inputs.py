@@ -9,6 +9,7 @@ LIMIT = 4_000_000_000
 PART = 2500  # questions asked at once
 WAITS = (0, 1, 2, 3, 4, 8, 15, 16, 17, 20, 31, 32, 33, 64, 100, 160, 288, 319, 320, 321, 352, 384, 416, 447, 448, 449, 450, 1000, 65535)
 MODES = (0, 0, 0, 0x20, 0x30, 0x24, 0x64, 0x74, 0x48, 0x08, 0x28, 0x68, 0x40, 0x80, 0x80, 0x90, 0x01, 0x81, 0x10, 0x04)
+ENABLES = (0x20, 0x10, 0x30, 0x30, 0x70, 0xF4, 0x22, 0x12, 0x32, 0x31, 0x33, 0)
 BYTES = (0, 1, 0x55, 0xA5, 0x7F, 0x80, 0xFE, 0xFF, 0xBF, 0x10, 0x20, 0x30, 0x78, 0xC7)
 EDGES = (0, 1, 2, 3, 7, 8, 9, 15, 16, 17, 31, 32, 127, 128, 129, 255, 256, 16383, 16384, 65535, 65536, 2097151, 2097152, 268435455, 268435456, 2**32 - 1)
 
@@ -29,19 +30,20 @@ def a_call(r):
         return (1, r.choice((SSR, SSR, RDR, *REGISTERS, 0xFF97, 0xFF9E, 0xFFA5, 65536)), 0)
     if kind == 2:
         address = r.choice((TDR, TDR, SSR, SCR, *REGISTERS, 0xFF90))
-        value = r.choice(MODES) if address == SMR else r.choice((0x20, 0x10, 0x30, 0x70, 0xF4, 0x22, 0x12, 0x32, 0x33, 0)) if address == SCR else r.choice((*BYTES, r.randrange(257)))
-        return (2, address, value)
+        return (2, address, r.choice({SMR: MODES, SCR: ENABLES}.get(address) or (*BYTES, r.randrange(257))))
     if kind == 3:
         return (3, r.choice((*WAITS, r.randrange(500))), 0)
     if kind == 6:
         return (6, r.choice((3, 3, 3, 2, 0, 1, 5, 7, 11, 15, 16)), 0)
-    return {4: (4, r.choice((0, 1, 0, 1, 2)), 0), 5: (5, r.choice((0, 1, 0, 1, 2)), r.choice((0, 1, 0, 1, 2))), 7: (7, 0, 0)}.get(kind, (kind, 0, 0))
+    levels = [r.choice((0, 1, 0, 1, 2)) for _ in range(2)]
+    return {4: (4, levels[0], 0), 5: (5, *levels)}.get(kind, (kind, 0, 0))
 
 
 def a_list(r):
+    """The port set up in some way, and then words, edges of the clock pin, and calls of any kind."""
     spcr = r.choice((0x10, 0x10, 0x13, 0x12, 0x11, 0))
-    calls = [(6, r.choice((3, 3, 3, 3, 5, 7, 2)), 0), (2, SPCR, spcr), (2, SMR, r.choice(MODES)), (2, SEMR, r.choice((0, 0, 8)))]
-    calls += [(2, SCR, r.choice((0x20, 0x10, 0x30, 0x30, 0x70, 0xF4, 0x32, 0x12, 0x22, 0x31)))]
+    power, semr = r.choice((3, 3, 3, 3, 5, 7, 2)), r.choice((0, 0, 8))
+    calls = [(6, power, 0), (2, SPCR, spcr), (2, SMR, r.choice(MODES)), (2, SEMR, semr), (2, SCR, r.choice(ENABLES))]
     calls = [c for c in calls if r.random() < 0.9]
     for _ in range(r.randrange(1, 14)):
         odds = r.random()
@@ -66,7 +68,7 @@ def broken(r, script):
         if odds < 0.3:
             del out[at:]
         elif odds < 0.6:
-            out[at:at] = r.choice((b"\x80", b"\x00", b"\xff\xff\xff\xff\x0f", b"\xff\xff\xff\xff\x10", b"\x80\x80\x80\x00", b"\x80\x80\x80\x80\x80\x01", b"\x08", b"\x80\x01"))
+            out[at:at] = bytes.fromhex(r.choice(("80", "00", "FFFFFFFF0F", "FFFFFFFF10", "80808000", "808080808001", "08", "8001")))
         elif at < len(out):
             out[at] = r.choice((0, 1, 2, 3, 4, 5, 6, 7, 8, 127, 128, 129, r.randrange(256)))
     return bytes(out)
@@ -125,8 +127,9 @@ def altered(r, state):
         elif name == "bit_start":
             state[i] = max(half + r.choice((-1, 0, 1)), 0)
         else:
-            most = MOST[i] + (r.random() < 0.02)
-            state[i] = r.choice((state[i] ^ 1 << r.randrange(8), r.choice((0, 1, 5, 7, 8, 9, 16, 32, most)), r.randrange(most + 1) if most < 65536 else half)) % (most + 1)
+            anything = r.randrange(MOST[i] + 1) if MOST[i] < 65536 else half
+            other = r.choice((state[i] ^ 1 << r.randrange(8), r.choice((0, 1, 5, 7, 8, 9, 16, 32, MOST[i])), anything))
+            state[i] = other % (MOST[i] + 1)
     return state
 
 
@@ -136,6 +139,7 @@ def given_of(state):
 
 # ---- arguments of functions
 def arguments(r, form):
+    """Numbers near where a function's answer changes: first of any argument, then as its name asks."""
     given = {}
     names = FUNCTIONS[form][1]
     half = r.choice((0, 5, 100, LIMIT, 2**32 - 2))
@@ -144,7 +148,8 @@ def arguments(r, form):
     given.update(smr=r.randrange(256), semr=r.choice((0, 8, 255)), high=r.randrange(2), half=half, left=r.choice((0, 1, 3, 448)))
     given.update(zip(FORMAT, a_format(r)))
     given.update(due=r.randrange(2), next=min(half + r.choice((0, 1, 2, 3, 448, 449)), 2**32 - 1), tag=r.randrange(6 if form.startswith("Tx") else 2))
-    given.update(position=128 + r.choice((-3, -2, -1, 0, 1, 4, 5, 6, 7, 8, 9, 10)), error=r.choice((0, 8, 16)), cell=r.choice((0, 1, 6, 7, 8, 9, 10)), parity_so_far=r.randrange(2), loaded=r.randrange(2))
+    given.update(position=128 + r.choice((-3, -2, -1, 0, 1, 4, 5, 6, 7, 8, 9, 10)), parity_so_far=r.randrange(2), error=r.choice((0, 8, 16)))
+    given.update(cell=r.choice((0, 1, 6, 7, 8, 9, 10)), loaded=r.randrange(2))
     if r.random() < 0.4:
         name = r.choice(names)
         given[name] = r.choice(EDGES)
@@ -179,6 +184,7 @@ class Inputs:
         printouts += [Question("printout", body=b"\x07" * n) for n in (0, 1, 2, 16383, 16384, 16385)]
         self.add(printouts)
         states = [[n for _, n in answered(q, a)][-53:] for q, _, a in self.families[1][:5000]]
+        assert [n for _, n in answered(Question("calls"), ask(right, [Question("calls").packed()])[0])][-53:] == FRESH
         self.add([self.on(r, altered(r, s)) for s in states * 2])
         self.add([Question(form, length=n) for form in ("script", "calls", "sci3_fresh") for n in (52, 54, 53)])
         self.add([Question(form, ((name, most + 1),)) for form in ("script", "calls") for name, most in zip(PLACES, MOST) if most < 2**64 - 1])

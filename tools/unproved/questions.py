@@ -29,7 +29,8 @@ PLACES = (
     + ["uart", "bit_start", "input", "input_clock", "sck", *under("sync_next", DUE), "transmitted", "received"]
 )
 B, W = 255, 2**32 - 1
-MOST = [B] * 10 + [1] * 4 + [W, 1, 1, 1, B] + [5, 1, B, 1, 1, B, W, 65535, B, 1, W, 1] + [1, 1, B, 1, 1, B, W, B, B, 1, B, 1, W] + [1, W, 1, 1, 1, 1, W] + [2**64 - 1] * 2
+MOST = [B] * 10 + [1] * 4 + [W, 1, 1, 1, B] + [5, 1, B, 1, 1, B, W, 65535, B, 1, W, 1] + [1, 1, B, 1, 1, B, W, B, B, 1, B, 1, W]
+MOST += [1, W, 1, 1, 1, 1, W] + [2**64 - 1] * 2
 FRESH = [0xC0, 0, 255, 0, 255, 0x84, 0, 0, 0, 0, 0, 0, 0, 0, 0, 1, 0] + [0] * 14 + [0] * 13 + [1, 0, 1, 1, 1, 0, 0, 0, 0]
 PLACE = {name: i for i, name in enumerate(PLACES)}
 ARRAY = [*PLACES, "place 53"]  # of an array that is one number too long
@@ -94,7 +95,10 @@ class Question:
     def numbers(self):
         given = dict(self.given)
         if self.form in FUNCTIONS:
-            return [given.get(name, 0) for name in FUNCTIONS[self.form][1]]
+            names = FUNCTIONS[self.form][1]
+            if not set(given) <= set(names):
+                raise KeyError(self.form)
+            return [given.get(name, 0) for name in names]
         if self.form == "printout":
             return []
         if self.form == "sci3_fresh":
@@ -118,7 +122,8 @@ class Question:
     def size(self):
         """What is read sooner is smaller: fewer places given, fewer commands, then smaller numbers."""
         calls = commands(self.body)[0]
-        return (len(self.given), self.length != 53, len(calls), self.log != LOG, len(self.body), sum(n for _, n in self.given) + sum(sum(c) for c in calls), sum(self.body))
+        numbers = sum(n for _, n in self.given) + sum(sum(c) for c in calls)
+        return (len(self.given), self.length != 53, len(calls), self.log != LOG, len(self.body), numbers, sum(self.body))
 
     def __str__(self):
         words = [self.form]
@@ -136,7 +141,7 @@ class Question:
 
 
 def parsed(text):
-    """The question of a notation."""
+    """The question of a notation; LookupError or ValueError where it is none."""
     form, *words = text.replace(",", "").split()
     given, body, more = [], b"", {}
     for word in words:
@@ -148,20 +153,17 @@ def parsed(text):
         elif word not in ("on", "none"):
             byte, _, times = word.partition("*")
             body += bytes([int(byte, 16)]) * int(times or 1)
-    return Question(form, tuple(given), body, **more)
+    question = Question(form, tuple(given), body, **more)
+    question.packed()  # fails where a name is not known
+    return question
 
 
 def in_hex(body):
     if len(body) > 64 and len(set(body)) == 1:
         return f"{body[0]:02X}*{len(body)}"
     whole, rest = commands(body)
-    pieces, at = [], 0
-    for command in whole:
-        pieces.append(encoded(command))
-    pieces += [rest] if rest else []
-    if b"".join(pieces) != body:
-        pieces = [body]
-    return ", ".join(" ".join(f"{b:02X}" for b in piece) for piece in pieces)
+    pieces = [encoded(command) for command in whole] + ([rest] if rest else [])
+    return ", ".join(piece.hex(" ").upper() for piece in pieces)
 
 
 def number(n):
@@ -216,7 +218,8 @@ def answered(question, answer):
         names = FUNCTIONS[question.form][2]
         if names == "text":
             at = 0 if question.form == "record_line" else 8
-            return [("its text", answer[at:].rstrip(b"\0").decode("latin1")), ("its length", int.from_bytes(answer[:at], "little")), ("the buffer", answer.hex())]
+            length, text = int.from_bytes(answer[:at], "little"), answer[at:].rstrip(b"\0").decode("latin1")
+            return [("its text", text), ("its length", length), ("the buffer", answer.hex())]
         numbers = struct.unpack_from(f"<{min(len(names), len(answer) // 8)}Q", answer)
         return [*zip(names, numbers), ("the buffer", answer[8 * len(numbers):].hex())]
     if question.form == "script":
