@@ -10,6 +10,7 @@ use Rattle.frame.specs.Frame.{bits, format, one-if, word}
 use Rattle.sci.specs.Calls.{Call, direct, lets-pass, reads, sets-line, sets-power, writes}
 use Rattle.words.specs.Receiver.{rx-clocked}
 use Rattle.recovery.specs.Line.{mark, signal, spread, stop-cells-begun, stop-cells-passed, tally-after, values, word-of}
+use Rattle.recovery.specs.Outside.{clock-runs}
 use Rattle.recovery.specs.Recovery.{Rest, Wired, completed, levels, run, start, trace, wait-trace}
 use Rattle.recovery.proofs.Compute.{count-halves, all-may, all-stand, are-separated, asked-of, breaks, history-meets, is-prefix, may-read, may-rest, none-by-8, rest-meets, says, stands, was-read, words-meet}
 use Rattle.recovery.proofs.Computes.{computes}
@@ -124,3 +125,8 @@ stays-clocked = refl
 goes-with-re : rx-clocked (run direct start (left ++ (writes 0xff9a 0 ∷ writes 0xff9a 0x10 ∷ [])) .port .rx) ≡ false
 unfolding report left
 goes-with-re = refl
+
+-- the internal clock runs with module and main clock on; not in reset mode, without a clock, on the subclock unless SMR asks for it, or on the clock pin
+clock : (clock-runs 3 0 0 ∷ clock-runs 11 0 0 ∷ clock-runs 1 0 0 ∷ clock-runs 5 0 0 ∷ clock-runs 5 0 1 ∷ clock-runs 3 2 0 ∷ []) ≡ true ∷ false ∷ false ∷ false ∷ true ∷ false ∷ []
+unfolding computes
+clock = refl

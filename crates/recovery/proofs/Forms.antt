@@ -38,6 +38,7 @@ use Rattle.recovery.specs.Recovery.{Wired, accepted, each, run, start, s
 use Rattle.recovery.proofs.Bridge.{run-is}
 use Rattle.recovery.proofs.Corollaries.{run-append}
 use Rattle.recovery.proofs.Halves.{OutcomePlain, sample-plain}
+use Rattle.recovery.proofs.LineFold.{by-stored}
 use Rattle.recovery.proofs.Project.{has-mask, view, view-arm, view-basic, view-complete, view-load-tail, view-refresh, view-shift-out, view-tail-step, view-try-start}
 use Rattle.recovery.proofs.View.{View, fall, v-advance, v-advance-on, v-arm, v-arm-on, v-basic, v-can-arm, v-complete, v-outcome, v-rx}
 
@@ -203,16 +204,7 @@ module _ (Q : Said) (k : Kept Q) where
       (λ e. by-cond Of (not (has (cleared v p) 0x80) && not (holds (p .holding))) _ _ (λ g. t) (λ g. t)) (λ e. t)
 
   of-stored : (a v : ℕ) (p : Port) → Of p → Of (write-scr v p) → (eqb a 0xff98 ≡ true → Of (with-smr p v)) → Of (with-semr p (bitAnd v 8)) → Of (stored a v p)
-  unfolding stored
-  of-stored a v p t scr smr semr =
-      by-cond Of (eqb a 0xff91) _ _ (λ e. t) (λ e.
-      by-cond Of (eqb a 0xff98) _ _ smr (λ e.
-      by-cond Of (eqb a 0xff99) _ _ (λ e. t) (λ e.
-      by-cond Of (eqb a 0xff9a) _ _ (λ e. scr) (λ e.
-      by-cond Of (eqb a 0xff9b) _ _ (λ e. of-tdr v p t) (λ e.
-      by-cond Of (eqb a 0xff9c) _ _ (λ e. of-ssr v p t) (λ e.
-      by-cond Of (eqb a 0xff9d) _ _ (λ e. t) (λ e.
-      by-cond Of (eqb a 0xffa6) _ _ (λ e. semr) (λ e. t))))))))
+  of-stored a v p t scr smr semr = by-stored Of a v p t smr t scr (of-tdr v p t) (of-ssr v p t) t semr t
 
   -- what follows a store
   of-write : (a v : ℕ) (p : Port) → Of p → Of (stored a v p) → Of (write a v p)

@@ -1,24 +1,26 @@
 -- Demand 3 with conditions that a caller can check from outside. `Recovers` (Recovery.antt) asks two things of the port's inside: that RDR is read between any
 -- two completions, and that at the rest's end the receiver holds no word of clocked form. Here the first is said by the words on the line and the second by
 -- what was written. Both ask for more than `Recovers` does: a read in the first stop cell, after its sample, does not count here.
--- What else is asked a caller sees: SCR, SMR, SSR, SPCR and SEMR are what a read of them answers; halves pass, one for each that an accepted wait names, while
--- the last accepted power command has module and main clock on and reset mode off and SCR bit 1 is clear (sci's `internal`).
+-- What else is asked a caller sees. SCR, SMR, SSR, SPCR and SEMR are what a read of them answers; whether the internal clock runs, so that an accepted wait
+-- passes the halves that it names, is known from the power commands, SCR and SMR (`ClockAsCommanded`); and of a trace only halves, their levels and RDR reads
+-- are looked at, not which halves complete a word.
 -- Proved in proofs/Outside.antt; the worked list of proofs/Example.antt meets it, and proofs/Facts.antt has what goes wrong otherwise.
 -- Assumes nothing.
 use mathlib.Core.Path.{_≡_}
 use Prim.Native.Nat.{ℕ, _≤_, _<_}
-use mathlib.Core.Bool.{true, false}
-use mathlib.Core.List.{List, _∷_, _++_}
+use mathlib.Core.Bool.{Bool, true, false, cond, not, _&&_, _||_}
+use mathlib.Core.List.{List, [], _∷_, _++_}
 use lib.Dec.{eqb}
+use lib.Bits.{bitAnd}
 use lib.ListN.{length}
 use Rattle.frame.specs.declared.Format.{Format}
 use Rattle.frame.specs.Frame.{has}
 use Rattle.sci.specs.declared.Port.{Port}
-use Rattle.sci.specs.Baud.{format-of}
+use Rattle.sci.specs.Baud.{format-of, internal}
 use Rattle.sci.specs.Calls.{Answer, Call, lets-pass, passes-inside, reads, sets-line, sets-pins, sets-power, writes}
 use Rattle.recovery.specs.Corollaries.{Sentences, halves-in}
 use Rattle.recovery.specs.Line.{Item, prefix, rdr-read, signal, stop-cells-begun, stop-cells-passed}
-use Rattle.recovery.specs.Recovery.{HistoryEnd, Moment, Recovered, Rest, Wired, Words, accepted, allowed-in-rest, allowed-in-words, each, levels, line-at-mark, rest-end, run, start, trace}
+use Rattle.recovery.specs.Recovery.{HistoryEnd, Moment, Recovered, Rest, Wired, Words, accepted, allowed-in-rest, allowed-in-words, each, levels, line-at-mark, rest-end, run, start, step, trace}
 
 -- ---- RDR read in time, by the line's words
 -- a read of RDR after the first stop cells of n words have passed, and before that of the next begins
@@ -47,7 +49,34 @@ keeps-start-stop (sets-pins c b) a = Unit {0}
 keeps-start-stop (sets-power b) a = Unit {0}
 keeps-start-stop passes-inside a = Unit {0}
 
+-- ---- the clock, by what was commanded
+-- the bits of the last accepted power command
+abbrev pub power-after : Call → Answer → ℕ → ℕ
+power-after (sets-power b) a n = cond (accepted a) b n
+power-after (reads x) a n = n
+power-after (writes x v) a n = n
+power-after (lets-pass k) a n = n
+power-after (sets-line b) a n = n
+power-after (sets-pins c b) a n = n
+power-after passes-inside a n = n
+
+-- the internal clock runs, by these bits, SCR and SMR: module on, reset mode off, main clock on (or the subclock, where SMR asks for it), and SCR bit 1 clear
+abbrev pub clock-runs : ℕ → ℕ → ℕ → Bool
+clock-runs b scr smr = (has b 1 && (not (has b 8) && (has b 2 || (has b 4 && eqb (bitAnd smr 3) 1)))) && not (has scr 2)
+
 module _ (direct : Call → Port → Answer) where
+  -- of a list of calls, n before it
+  unfoldable pub power-commanded : ℕ → Wired → List Call → ℕ
+  power-commanded n s [] = n
+  power-commanded n s (c ∷ cs) =
+      let a = direct c (s .port) in
+      power-commanded (power-after c a n) (step c a s) cs
+
+  -- on a fresh port all are off
+  unfoldable pub ClockAsCommanded : Type 0
+  ClockAsCommanded =
+      (calls : List Call) → internal (run direct start calls .port) ≡ clock-runs (power-commanded 0 start calls) (run direct start calls .port .scr) (run direct start calls .port .smr)
+
   -- at some point of the calls RE was clear and SMR bit 0x80 too, and from there on no accepted write to SMR set that bit. A port on which it was never set
   -- meets this with nothing before that point
   pub record StartStopSince (calls : List Call) : Type 0 where
