@@ -1,5 +1,5 @@
 -- A worked list of scripts and direct calls with a noisy history: it meets all that `ScriptsRecover` asks, so the claim is not empty; and what follows for it.
--- The calls are those of recovery's Example.antt: the first script is refused in mid word, a direct call resets the port, a direct call is refused, the second
+-- It goes as the list of recovery's Example.antt does: the first script is refused in mid word, a direct call resets the port, a direct call is refused, the second
 -- script ends the history, holds the rest and the first word, and the third, on the port that it left, the second word.
 -- Assumes nothing.
 use Prim.Native.Nat.{ℕ}

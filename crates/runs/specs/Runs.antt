@@ -100,6 +100,7 @@ ActionsAreCalls = (acts : List Action) → AfterActions acts
 
 -- ---- demand 3
 -- actions whose calls are history, rest and words recover: `Recovered` and the demand's sentences hold of these calls, and the port after the actions is
--- the one that they are about. Where history and rest end is free: between two actions, or inside a script (recovery's Layers.antt)
+-- the one that they are about. Where history and rest end is free: between two actions, or inside a script (recovery's Layers.antt). One script on a fresh
+-- port is the list of that one action
 abbrev pub ScriptsRecover : Type 0
 ScriptsRecover = CarriesOver leaves counts-as fresh (λ q p. q ≡ p)
