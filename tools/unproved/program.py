@@ -1,4 +1,4 @@
-"""Builds answers.rt over edited crates with no proof, and asks it.
+"""Builds answers.rattle over edited crates with no proof, and asks it.
 
 `rt try` compiles a program unproved, links it and runs it on nothing; a copy of the kit whose compiler and linker are stand-ins keeps what it makes. The
 program that is kept is the last, in which what the compiler may assume is checked, so that a wrong program breaks off rather than answers by chance."""
@@ -51,14 +51,14 @@ def kit(folder):
 
 
 class Workshop:
-    """A folder with the crates' sources and answers.rt as one program more."""
+    """A folder with the crates' sources and answers.rattle as one program more."""
 
     def __init__(self, folder):
         self.folder, self.kit, self.built = folder, kit(folder), 0
         for source in ROOT.glob("crates/*/src"):
             shutil.copytree(source, folder / source.relative_to(ROOT))
         (folder / "crates" / NAME / "src").mkdir(parents=True)
-        shutil.copy(HERE / "answers.rt", folder / "crates" / NAME / "src" / "main.rt")
+        shutil.copy(HERE / "answers.rattle", folder / "crates" / NAME / "src" / "main.rt")
         crates = [line.split(":")[0] for line in (ROOT / "crates.txt").read_text().splitlines() if ":" in line and not line.startswith("#")]
         libraries = [c for c in crates if (ROOT / "crates" / c / "src" / "lib.rt").is_file()]
         (folder / "crates.txt").write_text((ROOT / "crates.txt").read_text() + f"{NAME}: {' '.join(libraries)} bytes io libc\n")

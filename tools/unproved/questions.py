@@ -1,4 +1,4 @@
-"""Questions to a program that answers.rt was built with, in the notation that an edit's third line has:
+"""Questions to a program that answers.rattle was built with, in the notation that an edit's third line has:
 
     script 06 03, 03 05 log=4                   the bytes as a script on a fresh port, with a log of 4 bytes (else 240)
     calls 06 03, 03 05 on half=5 edge=1         the commands as direct calls, on the port that differs from a fresh one in these places of the array; `none`
@@ -35,7 +35,7 @@ FRESH = [0xC0, 0, 255, 0, 255, 0x84, 0, 0, 0, 0, 0, 0, 0, 0, 0, 1, 0] + [0] * 14
 PLACE = {name: i for i, name in enumerate(PLACES)}
 ARRAY = [*PLACES, "place 53"]  # of an array that is one number too long
 
-# Functions: the number that answers.rt knows them by, arguments, results. A script's or a buffer's bytes come last.
+# Functions: the number that answers.rattle knows them by, arguments, results. A script's or a buffer's bytes come last.
 READ = ("fault", "value", "next")
 FUNCTIONS = {
     "record_line": (5, ("kind", "answer", "ssr", "level", "interrupt"), "text"),
