@@ -9,21 +9,23 @@ use lib.Dec.{eqb, leb}
 use lib.ListN.{length}
 use borrow.Author.Tests.{eq-eqb, eqb-true, ne-eqb}
 use Rattle.branches.proofs.Branches.{by-cond, both-arms}
-use Rattle.sci.specs.declared.Port.{Port}
-use Rattle.sci.specs.Calls.{Call, reads, writes, lets-pass, sets-line, sets-pins, sets-power, passes-inside, Answer, done, refused, after, direct, run}
-use Rattle.sci.specs.Power.{fresh}
-use Rattle.sci.specs.Valid.{valid}
+use Rattle.port.specs.declared.Port.{Port}
+use Rattle.command.specs.declared.Command.{Command}
+use Rattle.command.specs.declared.Command.the-variants.{Read, Write, Wait, Line, Pins, Power, Inside}
+use Rattle.port.specs.Calls.{Answer, done, refused, after, direct, run}
+use Rattle.port.specs.Power.{fresh}
+use Rattle.port.specs.Valid.{valid}
 use Rattle.script.specs.Items.{items}
 use Rattle.player.specs.Play.{Run, ended, play-items, play}
-use Rattle.laws.specs.Laws.{Refused-stands}
-use Rattle.laws.specs.Ranges.{Answers-a-byte}
-use Rattle.laws.proofs.Laws.{refused-stands}
-use Rattle.laws.proofs.Ranges.{answers-a-byte}
+use Rattle.port_laws.specs.Laws.{Refused-stands}
+use Rattle.port_laws.specs.Ranges.{Answers-a-byte}
+use Rattle.port_laws.proofs.Laws.{refused-stands}
+use Rattle.port_laws.proofs.Ranges.{answers-a-byte}
 use Rattle.recovery.specs.Layers.{CarriesOver, state-after}
-use Rattle.runs.specs.Runs.{Action, makes-call, plays-script, leaves, calls, played as commands-played, port-after}
-use Rattle.runs.proofs.Runs.{runs-are-calls, eight-at-entry-only, actions-are-calls, scripts-recover}
+use Rattle.script_laws.specs.Runs.{Action, makes-call, plays-script, leaves, calls, played as commands-played, port-after}
+use Rattle.script_laws.proofs.Runs.{runs-are-calls, eight-at-entry-only, actions-are-calls, scripts-recover}
 use Rattle.capi.specs.State.{a-port, encode, port-max}
-use Rattle.capi.specs.Exports.{Lent, lent, refusal, command, answered, call-on, call, pins-on, pins-answer, interrupt-on, interrupt-answer, fresh-state, Playing, playing, run-left, play-on, played}
+use Rattle.capi.specs.Exports.{Lent, lent, refusal, command, call-left, call-on, call, pins-on, pins-answer, interrupt-on, interrupt-answer, fresh-state, Playing, playing, run-left, play-on, played}
 use Rattle.capi.specs.Round.{PortTyped}
 use Rattle.capi.proofs.Answers.{late-test}
 use Rattle.capi.proofs.Round.{round-trip}
@@ -36,13 +38,13 @@ use Rattle.array_laws.proofs.Decoded.{decoded-typed}
 pub all-actions-exported : AllActionsExported
 unfolding AllActionsExported command
 all-actions-exported [] = refl
-all-actions-exported (makes-call (reads a) ∷ acts) = ap (λ (l : List Action). makes-call (reads a) ∷ l) (all-actions-exported acts)
-all-actions-exported (makes-call (writes a v) ∷ acts) = ap (λ (l : List Action). makes-call (writes a v) ∷ l) (all-actions-exported acts)
-all-actions-exported (makes-call (lets-pass n) ∷ acts) = ap (λ (l : List Action). makes-call (lets-pass n) ∷ l) (all-actions-exported acts)
-all-actions-exported (makes-call (sets-line b) ∷ acts) = ap (λ (l : List Action). makes-call (sets-line b) ∷ l) (all-actions-exported acts)
-all-actions-exported (makes-call (sets-pins c b) ∷ acts) = ap (λ (l : List Action). makes-call (sets-pins c b) ∷ l) (all-actions-exported acts)
-all-actions-exported (makes-call (sets-power b) ∷ acts) = ap (λ (l : List Action). makes-call (sets-power b) ∷ l) (all-actions-exported acts)
-all-actions-exported (makes-call passes-inside ∷ acts) = ap (λ (l : List Action). makes-call passes-inside ∷ l) (all-actions-exported acts)
+all-actions-exported (makes-call (Read a) ∷ acts) = ap (λ (l : List Action). makes-call (Read a) ∷ l) (all-actions-exported acts)
+all-actions-exported (makes-call (Write a v) ∷ acts) = ap (λ (l : List Action). makes-call (Write a v) ∷ l) (all-actions-exported acts)
+all-actions-exported (makes-call (Wait n) ∷ acts) = ap (λ (l : List Action). makes-call (Wait n) ∷ l) (all-actions-exported acts)
+all-actions-exported (makes-call (Line b) ∷ acts) = ap (λ (l : List Action). makes-call (Line b) ∷ l) (all-actions-exported acts)
+all-actions-exported (makes-call (Pins c b) ∷ acts) = ap (λ (l : List Action). makes-call (Pins c b) ∷ l) (all-actions-exported acts)
+all-actions-exported (makes-call (Power b) ∷ acts) = ap (λ (l : List Action). makes-call (Power b) ∷ l) (all-actions-exported acts)
+all-actions-exported (makes-call Inside ∷ acts) = ap (λ (l : List Action). makes-call Inside ∷ l) (all-actions-exported acts)
 all-actions-exported (plays-script script log ∷ acts) = ap (λ (l : List Action). plays-script script log ∷ l) (all-actions-exported acts)
 
 -- ---- one exported call on an array that holds a port
@@ -61,7 +63,7 @@ at-8 p script log z = go (valid p) refl
 
 module _ (s : List ℕ) (p : Port) (d : Holds s p) where
   on-call : (kind a b : ℕ) → call kind a b s
-      ≡ cond (leb 1 kind && leb kind 7) (answered s (direct (command kind a b) p)) (cond (valid p) (lent (refusal 7) s) (lent (refusal 8) s))
+      ≡ cond (leb 1 kind && leb kind 7) (call-left s (direct (command kind a b) p)) (cond (valid p) (lent (refusal 7) s) (lent (refusal 8) s))
   unfolding call
   on-call kind a b = ap (call-on kind a b s) d ∙ sym (late-test (command kind a b) (leb 1 kind && leb kind 7) s (lent (refusal 7) s) p)
 
@@ -69,7 +71,7 @@ module _ (s : List ℕ) (p : Port) (d : Holds s p) where
   unfolding played
   on-play script log = ap (play-on s script log) d
 
-  answer-left : (c : Call) (r : Answer) → direct c p ≡ r → Left s p (answered s r .state) (after r)
+  answer-left : (c : Command) (r : Answer) → direct c p ≡ r → Left s p (call-left s r .state) (after r)
   unfolding Refused-stands
   answer-left c (done v q) e = inr refl
   answer-left c (refused n offset q) e = inl (refl, refused-stands c p q n offset e .0)
@@ -79,13 +81,13 @@ module _ (s : List ℕ) (p : Port) (d : Holds s p) where
   left (sci3-call kind a b) =
       subst (λ (l : Lent). Left s p (l .state) (state-after leaves p (action-of (sci3-call kind a b)))) (sym (on-call kind a b)) (go (leb 1 kind && leb kind 7))
     where
-      c : Call
+      c : Command
       c = command kind a b
 
       unknown : Lent
       unknown = cond (valid p) (lent (refusal 7) s) (lent (refusal 8) s)
 
-      go : (known : Bool) → Left s p (cond known (answered s (direct c p)) unknown .state) (state-after leaves p (cond known (makes-call c ∷ []) []))
+      go : (known : Bool) → Left s p (cond known (call-left s (direct c p)) unknown .state) (state-after leaves p (cond known (makes-call c ∷ []) []))
       go true = answer-left c (direct c p) refl
       go false = both-arms (λ (l : Lent). Left s p (l .state) p) (valid p) (lent (refusal 7) s) (lent (refusal 8) s) (inl (refl, refl)) (inl (refl, refl))
   left (sci3-play script log) =
@@ -98,7 +100,7 @@ module _ (s : List ℕ) (p : Port) (d : Holds s p) where
   answers e =
       record {
         of-call = λ kind a b. on-call kind a b
-            ∙ ap (λ (v : Bool). cond (leb 1 kind && leb kind 7) (answered s (direct (command kind a b) p)) (cond v (lent (refusal 7) s) (lent (refusal 8) s))) e;
+            ∙ ap (λ (v : Bool). cond (leb 1 kind && leb kind 7) (call-left s (direct (command kind a b) p)) (cond v (lent (refusal 7) s) (lent (refusal 8) s))) e;
         of-read = λ c v q h. answers-a-byte c p q v (typed-in-range p (decoded-typed s p d)) h;
         of-play = λ script log. let r : Run = play p script log in
             on-play script log
@@ -115,12 +117,12 @@ pub failing-refused : FailingRefused
 unfolding FailingRefused call play
 failing-refused s p d e = (
   λ kind a b. ap (call-on kind a b s) d
-      ∙ ap (λ (v : Bool). cond v (cond (leb 1 kind && leb kind 7) (answered s (direct (command kind a b) p)) (lent (refusal 7) s)) (lent (refusal 8) s)) e,
+      ∙ ap (λ (v : Bool). cond v (cond (leb 1 kind && leb kind 7) (call-left s (direct (command kind a b) p)) (lent (refusal 7) s)) (lent (refusal 8) s)) e,
   λ script log. on-play s p d script log ∙ ap (λ (v : Bool). run-left s (cond v (play-items p (items script 0) log) (ended 8 0 p log))) e,
 )
 
 -- ---- actions keep a port typed
-after-typed : (c : Call) (p : Port) → PortTyped p → PortTyped (after (direct c p))
+after-typed : (c : Command) (p : Port) → PortTyped p → PortTyped (after (direct c p))
 unfolding KeepsTyped Refused-stands
 after-typed c p t = go (direct c p) refl
   where
@@ -128,7 +130,7 @@ after-typed c p t = go (direct c p) refl
     go (done v q) e = keeps-typed c p q v t e
     go (refused n offset q) e = subst PortTyped (sym (refused-stands c p q n offset e .0)) t
 
-run-typed : (cs : List Call) (p : Port) → PortTyped p → PortTyped (run p cs)
+run-typed : (cs : List Command) (p : Port) → PortTyped p → PortTyped (run p cs)
 unfolding run
 run-typed [] p t = t
 run-typed (c ∷ cs) p t = run-typed cs (after (direct c p)) (after-typed c p t)

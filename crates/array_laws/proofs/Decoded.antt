@@ -10,11 +10,11 @@ use lib.IntN.{pos, negsuc}
 use lib.Signed.{mag}
 use borrow.Author.Tests.{leb-true, leb-false}
 use Rattle.branches.proofs.Branches.{by-cond, both-arms}
-use Rattle.words.specs.declared.Character.{Character}
-use Rattle.words.specs.declared.Due.{Due}
-use Rattle.words.specs.declared.Due.the-variants.{Never, At}
-use Rattle.words.specs.declared.Holding.the-variants.{Empty, Byte}
-use Rattle.words.specs.declared.Receiver.the-variants.{Idle, Busy}
+use Rattle.shift.specs.declared.Character.{Character}
+use Rattle.shift.specs.declared.Due.{Due}
+use Rattle.shift.specs.declared.Due.the-variants.{Never, At}
+use Rattle.shift.specs.declared.Holding.the-variants.{Empty, Byte}
+use Rattle.shift.specs.declared.Receiver.the-variants.{Idle, Busy}
 use Rattle.capi.specs.State.{u8-max, u32-max, flag, at, due-max, holding-max, format-max, character-max, tx-max, word-max, rx-max, port-max, fits, due-in, holding-in, format-in, character-in, tail-of, tx-of, tx-in, position-of, word-in, rx-in, port-of, port-in, Decoded, a-port, nothing, decode}
 use Rattle.capi.specs.Round.{DueTyped, HoldingTyped, FormatTyped, CharacterTyped, TxTyped, RxTyped, ReceiverTyped, PortTyped}
 use Rattle.capi.proofs.Fits.{fits-at, part-fits}

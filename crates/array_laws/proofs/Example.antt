@@ -6,13 +6,13 @@ use mathlib.Core.Bool.{true}
 use Prim.Native.Nat.{ℕ}
 use mathlib.Core.List.{List, [], _∷_, map}
 use lib.ListN.{length, take, drop}
-use Rattle.sci.specs.Calls.{direct}
-use Rattle.sci.specs.Power.{fresh}
+use Rattle.port.specs.Calls.{direct}
+use Rattle.port.specs.Power.{fresh}
 use Rattle.recovery.specs.Layers.{state-after}
-use Rattle.recovery.specs.Recovery.{rest-end, run}
+use Rattle.recovery.specs.Recovery.{rest-end, run-wired}
 use Rattle.recovery.proofs.Computes.{computes}
-use Rattle.runs.specs.Runs.{Action, port-after}
-use Rattle.runs.proofs.Example as worked
+use Rattle.script_laws.specs.Runs.{Action, port-after}
+use Rattle.script_laws.proofs.Example as worked
 use Rattle.capi.specs.State.{encode, port-max, fits, due-in, holding-in, format-in, character-in, tail-of, tx-of, tx-in, position-of, word-in, rx-in, port-of, port-in, decode}
 use Rattle.capi.specs.Exports.{fresh-state, command, call}
 use Rattle.array_laws.specs.Arrays.{Exported, sci3-call, array-after, actions, exported, AllActionsExported, ArraysArePorts}
@@ -22,7 +22,7 @@ pub exports : List Exported
 exports = map exported worked.actions
 
 pub recovers : (first : List ℕ) → length first ≡ length port-max
-    → array-after (fresh-state first .state) exports ≡ encode (run direct (rest-end direct worked.history worked.rest) worked.words .port)
+    → array-after (fresh-state first .state) exports ≡ encode (run-wired direct (rest-end direct worked.history worked.rest) worked.words .port)
 unfolding ArraysArePorts AllActionsExported exports
 recovers first h =
     arrays-are-ports first exports h ∙ ap (λ (acts : List Action). encode (port-after acts)) (all-actions-exported worked.actions) ∙ ap encode (worked.follows .held)

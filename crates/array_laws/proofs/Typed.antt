@@ -14,33 +14,33 @@ use Rattle.frame.specs.Frame.{stop, bits, number, frame, word, data-of, format-
 use Rattle.frame.proofs.Truth.{and-left, and-right}
 use Rattle.frame.proofs.Laws.{one-if≤}
 use Rattle.frame.proofs.Words.{Shape, shape, bits-length, number-lt, cells-length, word-plain, word-clocked}
-use Rattle.words.specs.declared.Due.{Due}
-use Rattle.words.specs.declared.Due.the-variants.{Never, At}
-use Rattle.words.specs.declared.Holding.{Holding}
-use Rattle.words.specs.declared.Holding.the-variants.{Empty, Byte}
-use Rattle.words.specs.declared.Character.{Character}
-use Rattle.words.specs.declared.Loaded.{Loaded}
-use Rattle.words.specs.declared.Loaded.the-variants.{Nothing, Next}
-use Rattle.words.specs.declared.Tx.{Tx}
-use Rattle.words.specs.declared.Tx.the-variants.{Off, Blocked, Mark, Start, Data, Tail}
-use Rattle.words.specs.declared.Receiver.{Receiver}
-use Rattle.words.specs.declared.Receiver.the-variants.{Idle, Busy}
-use Rattle.words.specs.Valid.{character-valid}
-use Rattle.words.specs.Ready.{PlacedIn}
-use Rattle.words.proofs.SignedLaws.{place-mag}
-use Rattle.sci.specs.declared.Port.{Port}
-use Rattle.sci.specs.Calls.{run}
-use Rattle.sci.specs.Power.{fresh}
-use Rattle.sci.specs.Valid.{limit, valid}
-use Rattle.sci.proofs.Checked.{valid-ready}
+use Rattle.shift.specs.declared.Due.{Due}
+use Rattle.shift.specs.declared.Due.the-variants.{Never, At}
+use Rattle.shift.specs.declared.Holding.{Holding}
+use Rattle.shift.specs.declared.Holding.the-variants.{Empty, Byte}
+use Rattle.shift.specs.declared.Character.{Character}
+use Rattle.shift.specs.declared.Loaded.{Loaded}
+use Rattle.shift.specs.declared.Loaded.the-variants.{Nothing, Next}
+use Rattle.shift.specs.declared.Tx.{Tx}
+use Rattle.shift.specs.declared.Tx.the-variants.{Off, Blocked, Mark, Start, Data, Tail}
+use Rattle.shift.specs.declared.Receiver.{Receiver}
+use Rattle.shift.specs.declared.Receiver.the-variants.{Idle, Busy}
+use Rattle.shift.specs.Valid.{character-valid}
+use Rattle.shift.specs.Ready.{PlacedIn}
+use Rattle.shift.proofs.SignedLaws.{place-mag}
+use Rattle.port.specs.declared.Port.{Port}
+use Rattle.port.specs.Calls.{run}
+use Rattle.port.specs.Power.{fresh}
+use Rattle.port.specs.Valid.{limit, valid}
+use Rattle.port.proofs.Checked.{valid-ready}
 use Rattle.branches.proofs.Branches.{both-arms}
-use Rattle.laws.specs.Laws.{Accepted-passes, Grown-passes}
-use Rattle.laws.specs.Ranges.{HeldInRange, WordInRange, InRange, Keeps-ranges, Grown-in-range}
-use Rattle.laws.proofs.KeepSender.{DueMaybe, Good, GoodLoaded, cell-end, TxFits, by-maybe}
-use Rattle.laws.proofs.KeepReceiver.{RxFits}
-use Rattle.laws.proofs.KeepValid.{Sound, valid-sound}
-use Rattle.laws.proofs.Laws.{accepted-passes, grown-passes}
-use Rattle.laws.proofs.Ranges.{Three, three, keeps-ranges, grown-in-range}
+use Rattle.port_laws.specs.Laws.{Accepted-passes, Grown-passes}
+use Rattle.port_laws.specs.Ranges.{HeldInRange, WordInRange, InRange, Keeps-ranges, Grown-in-range}
+use Rattle.port_laws.proofs.KeepSender.{DueMaybe, Good, GoodLoaded, cell-end, TxFits, by-maybe}
+use Rattle.port_laws.proofs.KeepReceiver.{RxFits}
+use Rattle.port_laws.proofs.KeepValid.{Sound, valid-sound}
+use Rattle.port_laws.proofs.Laws.{accepted-passes, grown-passes}
+use Rattle.port_laws.proofs.Ranges.{Three, three, keeps-ranges, grown-in-range}
 use Rattle.capi.specs.State.{u16-max}
 use Rattle.capi.specs.Round.{DueTyped, HoldingTyped, FormatTyped, CharacterTyped, LoadedTyped, TxTyped, ReceiverTyped, PortTyped}
 use Rattle.array_laws.specs.Typed.{FreshTyped, KeepsTyped, GrownTyped}

@@ -10,18 +10,20 @@ use mathlib.Core.List.{List, [], _∷_, _++_, map}
 use lib.Dec.{leb}
 use lib.ListN.{length}
 use Rattle.frame.specs.Frame.{one-if}
-use Rattle.sci.specs.declared.Port.{Port}
-use Rattle.sci.specs.Calls.{Call, reads, writes, lets-pass, sets-line, sets-pins, sets-power, passes-inside, done, direct, run}
-use Rattle.sci.specs.Pins.{pins, interrupt}
-use Rattle.sci.specs.Power.{fresh}
-use Rattle.sci.specs.Valid.{valid}
+use Rattle.port.specs.declared.Port.{Port}
+use Rattle.command.specs.declared.Command.{Command}
+use Rattle.command.specs.declared.Command.the-variants.{Read, Write, Wait, Line, Pins, Power, Inside}
+use Rattle.port.specs.Calls.{done, direct, run}
+use Rattle.port.specs.Pins.{pins, interrupt}
+use Rattle.port.specs.Power.{fresh}
+use Rattle.port.specs.Valid.{valid}
 use Rattle.player.specs.Play.{play}
-use Rattle.recovery.specs.Line.{Item}
+use Rattle.recovery.specs.Line.{LineItem}
 use Rattle.recovery.specs.Layers.{Carried, state-after}
-use Rattle.recovery.specs.Recovery.{HistoryEnd, Rest, Words, rest-end, start, run as run-wired}
-use Rattle.runs.specs.Runs.{Action, makes-call, plays-script, leaves, counts-as, port-after, all-calls}
+use Rattle.recovery.specs.Recovery.{HistoryEnd, Rest, Words, rest-end, start, run-wired as run-wired}
+use Rattle.script_laws.specs.Runs.{Action, makes-call, plays-script, leaves, counts-as, port-after, all-calls}
 use Rattle.capi.specs.State.{a-port, decode, encode, port-max}
-use Rattle.capi.specs.Exports.{lent, refusal, command, answered, call, pins-number, pins-answer, interrupt-answer, fresh-state, playing, played}
+use Rattle.capi.specs.Exports.{lent, refusal, command, call-left, call, pins-number, pins-answer, interrupt-answer, fresh-state, playing, played}
 
 -- ---- exported calls
 -- the two that write the array: `sci3_call` with kind and operands, `sci3_play` with a script and what the lent log holds
@@ -48,13 +50,13 @@ actions (e ∷ es) = action-of e ++ actions es
 
 -- each action is one: the call of its kind, or the script
 abbrev pub exported : Action → Exported
-exported (makes-call (reads a)) = sci3-call 1 a 0
-exported (makes-call (writes a v)) = sci3-call 2 a v
-exported (makes-call (lets-pass n)) = sci3-call 3 n 0
-exported (makes-call (sets-line line)) = sci3-call 4 line 0
-exported (makes-call (sets-pins clock line)) = sci3-call 5 clock line
-exported (makes-call (sets-power b)) = sci3-call 6 b 0
-exported (makes-call passes-inside) = sci3-call 7 0 0
+exported (makes-call (Read a)) = sci3-call 1 a 0
+exported (makes-call (Write a v)) = sci3-call 2 a v
+exported (makes-call (Wait n)) = sci3-call 3 n 0
+exported (makes-call (Line line)) = sci3-call 4 line 0
+exported (makes-call (Pins clock line)) = sci3-call 5 clock line
+exported (makes-call (Power b)) = sci3-call 6 b 0
+exported (makes-call Inside) = sci3-call 7 0 0
 exported (plays-script script log) = sci3-play script log
 
 unfoldable pub AllActionsExported : Type 0
@@ -80,12 +82,12 @@ ArraysAreCalls =
     (first : List ℕ) (es : List Exported) → length first ≡ length port-max
     → array-after (fresh-state first .state) es ≡ encode (run fresh (all-calls (actions es)))
 
--- ---- what is answered
+-- ---- what is call-left
 -- by each export on an array s that holds the port p: what a direct call on p, a run on p, the pins of p and its interrupt request are; never 8
 pub record Answers (s : List ℕ) (p : Port) : Type 0 where
-  pub of-call : (kind a b : ℕ) → call kind a b s ≡ cond (leb 1 kind && leb kind 7) (answered s (direct (command kind a b) p)) (lent (refusal 7) s)
+  pub of-call : (kind a b : ℕ) → call kind a b s ≡ cond (leb 1 kind && leb kind 7) (call-left s (direct (command kind a b) p)) (lent (refusal 7) s)
   -- below 256, so that no value is taken for a refusal
-  pub of-read : (c : Call) (v : ℕ) (q : Port) → direct c p ≡ done v q → v < 256
+  pub of-read : (c : Command) (v : ℕ) (q : Port) → direct c p ≡ done v q → v < 256
   pub of-play : (script log : List ℕ) → let r = play p script log in played s script log ≡ playing (r .number) (r .offset ∷ r .used ∷ []) (encode (r .port)) (r .log)
   pub of-pins : pins-answer s ≡ pins-number (pins p)
   pub of-interrupt : interrupt-answer s ≡ one-if (interrupt p)
@@ -110,7 +112,7 @@ ArraysAnswer =
 -- Layers.antt), and the array is the encoding of the port that they are about
 unfoldable pub ArraysRecover : Type 0
 ArraysRecover =
-    (first : List ℕ) (es : List Exported) (history rest words : List Call) (line : List Item) → length first ≡ length port-max
+    (first : List ℕ) (es : List Exported) (history rest words : List Command) (line : List LineItem) → length first ≡ length port-max
     → all-calls (actions es) ≡ history ++ (rest ++ words)
     → HistoryEnd (run-wired direct start history) → Rest direct (run-wired direct start history) rest → Words direct (rest-end direct history rest) words line
     → Carried leaves counts-as fresh (λ q p. q ≡ p) (actions es) history rest words line

@@ -5,9 +5,10 @@
 use mathlib.Core.Path.{_≡_}
 use Prim.Native.Nat.{ℕ}
 use mathlib.Core.List.{List}
-use Rattle.sci.specs.declared.Port.{Port}
-use Rattle.sci.specs.Calls.{Call, done, direct, run}
-use Rattle.sci.specs.Power.{fresh}
+use Rattle.port.specs.declared.Port.{Port}
+use Rattle.command.specs.declared.Command.{Command}
+use Rattle.port.specs.Calls.{done, direct, run}
+use Rattle.port.specs.Power.{fresh}
 use Rattle.capi.specs.State.{a-port, decode}
 use Rattle.capi.specs.Round.{PortTyped}
 
@@ -18,7 +19,7 @@ unfoldable pub FreshTyped : Type 0
 FreshTyped = PortTyped fresh
 
 unfoldable pub KeepsTyped : Type 0
-KeepsTyped = (c : Call) (p q : Port) (v : ℕ) → PortTyped p → direct c p ≡ done v q → PortTyped q
+KeepsTyped = (c : Command) (p q : Port) (v : ℕ) → PortTyped p → direct c p ≡ done v q → PortTyped q
 
 unfoldable pub GrownTyped : Type 0
-GrownTyped = (cs : List Call) → PortTyped (run fresh cs)
+GrownTyped = (cs : List Command) → PortTyped (run fresh cs)

@@ -7,19 +7,20 @@ use Prim.Native.Nat.{ℕ, _+_, _*_}
 use lib.Dec.{eqb, leb}
 use borrow.Author.Tests.{eq-eqb, ne-eqb}
 use Rattle.frame.specs.Frame.{one-if}
-use Rattle.sci.specs.declared.Port.{Port}
-use Rattle.sci.specs.declared.Pins.{Pins}
-use Rattle.sci.specs.declared.Called.{Called}
-use Rattle.sci.specs.declared.Outcome.{Outcome}
-use Rattle.sci.specs.declared.Outcome.the-variants.{Done, Refused}
-use Rattle.sci.specs.declared.Refusal.{Refusal}
-use Rattle.sci.specs.Valid.{valid}
-use Rattle.sci.specs.Calls.{Call, Answer, refuse, called, direct, answer, answer-of, number}
-use Rattle.sci.specs.Pins.{pins, interrupt, level-number}
+use Rattle.port.specs.declared.Port.{Port}
+use Rattle.port.specs.declared.Pins.{Pins}
+use Rattle.port.specs.declared.Called.{Called}
+use Rattle.port.specs.declared.Outcome.{Outcome}
+use Rattle.port.specs.declared.Outcome.the-variants.{Done, Refused}
+use Rattle.port.specs.declared.Refusal.{Refusal}
+use Rattle.port.specs.Valid.{valid}
+use Rattle.command.specs.declared.Command.{Command}
+use Rattle.port.specs.Calls.{Answer, refuse, called, direct, answer, answer-of, number}
+use Rattle.port.specs.Pins.{pins, interrupt, level-number}
 use Rattle.player.specs.declared.Played.{Played}
 use Rattle.player.specs.Play.{play, end-number, end-offset, ran}
 use Rattle.capi.specs.State.{a-port, nothing, decode, encode, port-max, port-in, fits}
-use Rattle.capi.specs.Exports.{Lent, lent, refusal, command, answered, call-on, call, clock-number, pins-number, pins-on, pins-answer, interrupt-on, interrupt-answer, playing, run-left, play-on, played}
+use Rattle.capi.specs.Exports.{Lent, lent, refusal, command, call-left, call-on, call, clock-number, pins-number, pins-on, pins-answer, interrupt-on, interrupt-answer, playing, run-left, play-on, played}
 
 -- ---- what the array holds, by the flag that the test gave
 decoded : (f : Bool) (s : List ℕ) → f ≡ fits port-max s → f ≡ true → decode s ≡ a-port (port-in s)
@@ -31,34 +32,34 @@ unfolding decode
 undecoded f s e t = ap (λ (b : Bool). cond b (a-port (port-in s)) nothing) (sym e ∙ t)
 
 -- ---- sci3_call
-pub direct-of : (x : Answer) (c d : Call) (p : Port) → x ≡ direct c p → c ≡ d → x ≡ direct d p
-direct-of x c d p h e = h ∙ ap (λ (y : Call). direct y p) e
+pub direct-of : (x : Answer) (c d : Command) (p : Port) → x ≡ direct c p → c ≡ d → x ≡ direct d p
+direct-of x c d p h e = h ∙ ap (λ (y : Command). direct y p) e
 
-pub answered-done : (s e : List ℕ) (v : ℕ) (x : Called) → x .outcome ≡ Done v → e ≡ encode (x .port) → lent v e ≡ answered s (answer x)
+pub answered-done : (s e : List ℕ) (v : ℕ) (x : Called) → x .outcome ≡ Done v → e ≡ encode (x .port) → lent v e ≡ call-left s (answer x)
 answered-done s e v x h k =
-    ap (lent v) k ∙ sym (ap (λ (o : Outcome). answered s (answer-of o (x .port))) h)
+    ap (lent v) k ∙ sym (ap (λ (o : Outcome). call-left s (answer-of o (x .port))) h)
 
-pub answered-refused : (s : List ℕ) (n offset : ℕ) (r : Refusal) (x : Called) → x .outcome ≡ Refused r offset → n ≡ number r → lent (256 + n) s ≡ answered s (answer x)
+pub answered-refused : (s : List ℕ) (n offset : ℕ) (r : Refusal) (x : Called) → x .outcome ≡ Refused r offset → n ≡ number r → lent (256 + n) s ≡ call-left s (answer x)
 answered-refused s n offset r x h k =
-    ap (λ (m : ℕ). lent (256 + m) s) k ∙ sym (ap (λ (o : Outcome). answered s (answer-of o (x .port))) h)
+    ap (λ (m : ℕ). lent (256 + m) s) k ∙ sym (ap (λ (o : Outcome). call-left s (answer-of o (x .port))) h)
 
-pub answered-of : (z : Lent) (s : List ℕ) (x : Called) (c : Call) (p q : Port) → z ≡ answered s (answer x) → answer x ≡ direct c p → p ≡ q → z ≡ answered s (direct c q)
-answered-of z s x c p q h k e = h ∙ ap (answered s) (k ∙ ap (direct c) e)
+pub answered-of : (z : Lent) (s : List ℕ) (x : Called) (c : Command) (p q : Port) → z ≡ call-left s (answer x) → answer x ≡ direct c p → p ≡ q → z ≡ call-left s (direct c q)
+answered-of z s x c p q h k e = h ∙ ap (call-left s) (k ∙ ap (direct c) e)
 
 -- the direct call tests 8 itself, so it may come before the test of the kind
-pub late-test : (c : Call) (known : Bool) (s : List ℕ) (x : Lent) (p : Port)
-    → cond known (answered s (direct c p)) (cond (valid p) x (lent (refusal 8) s)) ≡ cond (valid p) (cond known (answered s (direct c p)) x) (lent (refusal 8) s)
+pub late-test : (c : Command) (known : Bool) (s : List ℕ) (x : Lent) (p : Port)
+    → cond known (call-left s (direct c p)) (cond (valid p) x (lent (refusal 8) s)) ≡ cond (valid p) (cond known (call-left s (direct c p)) x) (lent (refusal 8) s)
 unfolding direct
 late-test c known s x p = go known (valid p)
   where
-    go : (k v : Bool) → let a = answered s (cond v (called c p) (refuse 8 p)) in cond k a (cond v x (lent (refusal 8) s)) ≡ cond v (cond k a x) (lent (refusal 8) s)
+    go : (k v : Bool) → let a = call-left s (cond v (called c p) (refuse 8 p)) in cond k a (cond v x (lent (refusal 8) s)) ≡ cond v (cond k a x) (lent (refusal 8) s)
     go true true = refl
     go true false = refl
     go false true = refl
     go false false = refl
 
 pub call-on-port : (z : Lent) (f : Bool) (kind a b : ℕ) (s : List ℕ) → f ≡ fits port-max s → f ≡ true
-    → z ≡ cond (leb 1 kind && leb kind 7) (answered s (direct (command kind a b) (port-in s))) (cond (valid (port-in s)) (lent (refusal 7) s) (lent (refusal 8) s))
+    → z ≡ cond (leb 1 kind && leb kind 7) (call-left s (direct (command kind a b) (port-in s))) (cond (valid (port-in s)) (lent (refusal 7) s) (lent (refusal 8) s))
     → z ≡ call kind a b s
 unfolding call
 call-on-port z f kind a b s e t h =

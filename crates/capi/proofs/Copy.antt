@@ -7,7 +7,7 @@ use native.Mathlib.Numerals.{add-one}
 use native.Mathlib.Omega.{arith}
 use lib.ListN.{length, take, getD, set}
 use lib.Seq.{take-all, take-suc, take-suc-set}
-use Rattle.sci.specs.declared.Port.{Port}
+use Rattle.port.specs.declared.Port.{Port}
 use Rattle.capi.specs.State.{register-list, power-list, holding-list, tx-list, rx-list, line-list, encode}
 
 module _ (s₀ l : List ℕ) (at : ℕ) where

@@ -5,15 +5,15 @@ use mathlib.Core.Bool.{Bool}
 use mathlib.Core.List.{List, [], _∷_}
 use Prim.Native.Nat.{ℕ}
 use Rattle.frame.specs.Frame.{one-if}
-use Rattle.sci.specs.declared.Port.{Port}
-use Rattle.words.specs.declared.Due.{Due}
-use Rattle.words.specs.declared.Holding.{Holding}
-use Rattle.words.specs.declared.Character.{Character}
-use Rattle.words.specs.declared.Tx.{Tx}
-use Rattle.words.specs.declared.Tx.the-variants.{Data}
-use Rattle.words.specs.declared.Rx.{Rx}
-use Rattle.words.specs.declared.Receiver.{Receiver}
-use Rattle.words.specs.Sender.{tx-next}
+use Rattle.port.specs.declared.Port.{Port}
+use Rattle.shift.specs.declared.Due.{Due}
+use Rattle.shift.specs.declared.Holding.{Holding}
+use Rattle.shift.specs.declared.Character.{Character}
+use Rattle.shift.specs.declared.Tx.{Tx}
+use Rattle.shift.specs.declared.Tx.the-variants.{Data}
+use Rattle.shift.specs.declared.Rx.{Rx}
+use Rattle.shift.specs.declared.Receiver.{Receiver}
+use Rattle.shift.specs.Sender.{tx-next}
 use Rattle.capi.specs.State.{at, due-tag, due-half, format-list, tx-tag, tx-character, tx-cell, tx-loaded, tx-list, position-number, rx-tag, rx-word, rx-list, tx-of, port-of}
 
 -- ---- what a sender in a known variant holds

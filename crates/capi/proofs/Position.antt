@@ -11,7 +11,7 @@ use mir.Syntax.{w8, w64}
 use mir.Val.{toZ, ofZ, Fits, SFits}
 use mir.Facts.{toZ-pos}
 use borrow.Author.Tests.{le-ltb, le-leb, lt-leb}
-use Rattle.words.proofs.SignedLaws.{bits-of}
+use Rattle.shift.proofs.SignedLaws.{bits-of}
 use Rattle.capi.specs.State.{position-number, position-of}
 
 -- -1 - z: the code's way between a negative position and a number from zero

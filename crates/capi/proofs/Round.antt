@@ -11,19 +11,19 @@ use lib.Signed.{mag}
 use borrow.Author.Tests.{le-leb, lt-leb}
 use Rattle.frame.specs.declared.Format.{Format}
 use Rattle.frame.specs.Frame.{one-if}
-use Rattle.sci.specs.declared.Port.{Port}
-use Rattle.words.specs.declared.Due.{Due}
-use Rattle.words.specs.declared.Due.the-variants.{Never, At}
-use Rattle.words.specs.declared.Holding.{Holding}
-use Rattle.words.specs.declared.Holding.the-variants.{Empty, Byte}
-use Rattle.words.specs.declared.Character.{Character}
-use Rattle.words.specs.declared.Loaded.the-variants.{Nothing, Next}
-use Rattle.words.specs.declared.Tx.{Tx}
-use Rattle.words.specs.declared.Tx.the-variants.{Off, Blocked, Mark, Start, Data, Tail}
-use Rattle.words.specs.declared.Rx.{Rx}
-use Rattle.words.specs.declared.Receiver.{Receiver}
-use Rattle.words.specs.declared.Receiver.the-variants.{Idle, Busy}
-use Rattle.words.specs.Sender.{tx-next}
+use Rattle.port.specs.declared.Port.{Port}
+use Rattle.shift.specs.declared.Due.{Due}
+use Rattle.shift.specs.declared.Due.the-variants.{Never, At}
+use Rattle.shift.specs.declared.Holding.{Holding}
+use Rattle.shift.specs.declared.Holding.the-variants.{Empty, Byte}
+use Rattle.shift.specs.declared.Character.{Character}
+use Rattle.shift.specs.declared.Loaded.the-variants.{Nothing, Next}
+use Rattle.shift.specs.declared.Tx.{Tx}
+use Rattle.shift.specs.declared.Tx.the-variants.{Off, Blocked, Mark, Start, Data, Tail}
+use Rattle.shift.specs.declared.Rx.{Rx}
+use Rattle.shift.specs.declared.Receiver.{Receiver}
+use Rattle.shift.specs.declared.Receiver.the-variants.{Idle, Busy}
+use Rattle.shift.specs.Sender.{tx-next}
 use Rattle.capi.specs.State.{flag, due-list, holding-list, format-list, character-list, tx-character, tx-cell, tx-loaded, tx-tag, tx-list, position-number, word-list, rx-list, register-list, power-list, line-list, encode, u8-max, u32-max, u64-max, due-max, holding-max, format-max, character-max, tx-max, word-max, rx-max, register-max, power-max, line-max, port-max, fits, due-in, holding-in, format-in, character-in, tail-of, tx-of, tx-in, position-of, word-in, rx-in, port-of, port-in, a-port, nothing, decode}
 use Rattle.frame.proofs.Truth.{and-left, and-right}
 use Rattle.frame.proofs.Laws.{one-if≤}

@@ -7,15 +7,17 @@ use mathlib.Core.List.{List, [], _∷_}
 use lib.Dec.{eqb, leb}
 use lib.ListN.{length}
 use Rattle.frame.specs.Frame.{one-if}
-use Rattle.sci.specs.declared.Drive.{Drive}
-use Rattle.sci.specs.declared.Drive.the-variants.{Floating, Low, High}
-use Rattle.sci.specs.declared.Clock.{Clock}
-use Rattle.sci.specs.declared.Clock.the-variants.{Free, Driven}
-use Rattle.sci.specs.declared.Pins.{Pins}
-use Rattle.sci.specs.Calls.{Call, reads, writes, lets-pass, sets-line, sets-pins, sets-power, passes-inside, Answer, done, refused, direct}
-use Rattle.sci.specs.Pins.{pins, interrupt, level-number}
-use Rattle.sci.specs.Power.{fresh}
-use Rattle.sci.specs.Valid.{valid}
+use Rattle.port.specs.declared.Drive.{Drive}
+use Rattle.port.specs.declared.Drive.the-variants.{Floating, Low, High}
+use Rattle.port.specs.declared.Clock.{Clock}
+use Rattle.port.specs.declared.Clock.the-variants.{Free, Driven}
+use Rattle.port.specs.declared.Pins.{Pins}
+use Rattle.command.specs.declared.Command.{Command}
+use Rattle.command.specs.declared.Command.the-variants.{Read, Write, Wait, Line, Pins, Power, Inside}
+use Rattle.port.specs.Calls.{Answer, done, refused, direct}
+use Rattle.port.specs.Pins.{pins, interrupt, level-number}
+use Rattle.port.specs.Power.{fresh}
+use Rattle.port.specs.Valid.{valid}
 use Rattle.player.specs.Play.{Run, play}
 use Rattle.capi.specs.State.{Decoded, a-port, nothing, decode, encode, port-max}
 
@@ -32,25 +34,25 @@ refusal n = 256 + n
 
 -- ---- sci3_call
 -- the call of a kind; an operand that the kind does not have is not looked at
-unfoldable pub command : ℕ → ℕ → ℕ → Call
+unfoldable pub command : ℕ → ℕ → ℕ → Command
 command kind a b =
-    cond (eqb kind 1) (reads a)
-    (cond (eqb kind 2) (writes a b)
-    (cond (eqb kind 3) (lets-pass a)
-    (cond (eqb kind 4) (sets-line a)
-    (cond (eqb kind 5) (sets-pins a b)
-    (cond (eqb kind 6) (sets-power a) passes-inside)))))
+    cond (eqb kind 1) (Read a)
+    (cond (eqb kind 2) (Write a b)
+    (cond (eqb kind 3) (Wait a)
+    (cond (eqb kind 4) (Line a)
+    (cond (eqb kind 5) (Pins a b)
+    (cond (eqb kind 6) (Power a) Inside)))))
 
 -- the value read, or 0, and the port after the call
-abbrev pub answered : List ℕ → Answer → Lent
-answered s (done v q) = lent v (encode q)
-answered s (refused n offset q) = lent (refusal n) s
+abbrev pub call-left : List ℕ → Answer → Lent
+call-left s (done v q) = lent v (encode q)
+call-left s (refused n offset q) = lent (refusal n) s
 
 -- "Direct calls test 8" first, so it comes before the test of the kind
 abbrev pub call-on : ℕ → ℕ → ℕ → List ℕ → Decoded → Lent
 call-on kind a b s nothing = lent (refusal 8) s
 call-on kind a b s (a-port p) =
-    cond (valid p) (cond (leb 1 kind && leb kind 7) (answered s (direct (command kind a b) p)) (lent (refusal 7) s)) (lent (refusal 8) s)
+    cond (valid p) (cond (leb 1 kind && leb kind 7) (call-left s (direct (command kind a b) p)) (lent (refusal 7) s)) (lent (refusal 8) s)
 
 unfoldable pub call : ℕ → ℕ → ℕ → List ℕ → Lent
 call kind a b s = call-on kind a b s (decode s)

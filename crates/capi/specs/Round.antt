@@ -5,19 +5,19 @@ use mathlib.Core.Path.{_≡_}
 use Prim.Native.Nat.{_≤_, _<_}
 use lib.Signed.{mag}
 use Rattle.frame.specs.declared.Format.{Format}
-use Rattle.sci.specs.declared.Port.{Port}
-use Rattle.words.specs.declared.Due.{Due}
-use Rattle.words.specs.declared.Due.the-variants.{Never, At}
-use Rattle.words.specs.declared.Holding.{Holding}
-use Rattle.words.specs.declared.Holding.the-variants.{Empty, Byte}
-use Rattle.words.specs.declared.Character.{Character}
-use Rattle.words.specs.declared.Loaded.{Loaded}
-use Rattle.words.specs.declared.Loaded.the-variants.{Nothing, Next}
-use Rattle.words.specs.declared.Tx.{Tx}
-use Rattle.words.specs.declared.Tx.the-variants.{Off, Blocked, Mark, Start, Data, Tail}
-use Rattle.words.specs.declared.Rx.{Rx}
-use Rattle.words.specs.declared.Receiver.{Receiver}
-use Rattle.words.specs.declared.Receiver.the-variants.{Idle, Busy}
+use Rattle.port.specs.declared.Port.{Port}
+use Rattle.shift.specs.declared.Due.{Due}
+use Rattle.shift.specs.declared.Due.the-variants.{Never, At}
+use Rattle.shift.specs.declared.Holding.{Holding}
+use Rattle.shift.specs.declared.Holding.the-variants.{Empty, Byte}
+use Rattle.shift.specs.declared.Character.{Character}
+use Rattle.shift.specs.declared.Loaded.{Loaded}
+use Rattle.shift.specs.declared.Loaded.the-variants.{Nothing, Next}
+use Rattle.shift.specs.declared.Tx.{Tx}
+use Rattle.shift.specs.declared.Tx.the-variants.{Off, Blocked, Mark, Start, Data, Tail}
+use Rattle.shift.specs.declared.Rx.{Rx}
+use Rattle.shift.specs.declared.Receiver.{Receiver}
+use Rattle.shift.specs.declared.Receiver.the-variants.{Idle, Busy}
 use Rattle.capi.specs.State.{u8-max, u16-max, u32-max, u64-max, a-port, decode, encode}
 
 abbrev pub DueTyped : Due → Type 0

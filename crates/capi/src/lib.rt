@@ -6,24 +6,24 @@ ghost use mathlib.Core.List.{_++_};
 ghost use lib.Dec.{eqb};
 ghost use lib.ListN.{length, take};
 ghost use Rattle.frame.specs.Frame.{one-if};
-ghost use Rattle.words.specs.Sender.{tx-next};
-ghost use Rattle.sci.specs.Calls.{answer, direct};
-ghost use Rattle.capi.specs.Exports.{lent, command, answered, call, drive-number, clock-number, pins-number, pins-answer, interrupt-answer, fresh-state, playing, played};
+ghost use Rattle.shift.specs.Sender.{tx-next};
+ghost use Rattle.port.specs.Calls.{answer, direct};
+ghost use Rattle.capi.specs.Exports.{lent, command, call-left, call, drive-number, clock-number, pins-number, pins-answer, interrupt-answer, fresh-state, playing, played};
 ghost use Rattle.capi.specs.State.{due-tag, due-half, holding-tag, held-byte, holding-list, format-list, no-format, no-character, no-rx, tx-tag, loaded-tag, loaded-character, tx-character, tx-cell, tx-loaded, tx-list, position-number, rx-tag, rx-word, rx-list, register-list, power-list, line-list, encode, due-max, holding-max, format-max, character-max, tx-max, word-max, rx-max, port-max, fits, due-in, holding-in, format-in, character-in, tail-of, tx-of, tx-in, position-of, word-in, rx-in, port-of, port-in};
 use frame::Format;
-use sci::Called;
-use sci::Clock;
-use sci::Drive;
-use sci::Outcome;
-use sci::Pins;
-use sci::Port;
-use words::Character;
-use words::Due;
-use words::Holding;
-use words::Loaded;
-use words::Receiver;
-use words::Rx;
-use words::Tx;
+use port::Called;
+use port::Clock;
+use port::Drive;
+use port::Outcome;
+use port::Pins;
+use port::Port;
+use shift::Character;
+use shift::Due;
+use shift::Holding;
+use shift::Loaded;
+use shift::Receiver;
+use shift::Rx;
+use shift::Tx;
 
 // How many numbers a state has, and the greatest that each may be.
 const STATE: usize = 53;
@@ -667,9 +667,9 @@ fn direct(p: Port, kind: u32, a: u32, b: u32) -> Called
 }
 
 // The array after a call, and the call's answer.
-fn answered(s: &mut [u64], called: Called) -> u64
+fn call_left(s: &mut [u64], called: Called) -> u64
     requires { ⌜ length (now s) ≡ length port-max ⌝ }
-    ensures { λ r. ⌜ lent r (now (s .exit)) ≡ answered (now (s .entry)) (answer called) ⌝ }
+    ensures { λ r. ⌜ lent r (now (s .exit)) ≡ call-left (now (s .entry)) (answer called) ⌝ }
 {
     let outcome = called.outcome;
     match outcome {
@@ -691,7 +691,7 @@ pub extern "C" fn sci3_call(state: &mut [u64], kind: u32, a: u32, b: u32) -> u64
         let port = port_in(state);
         if (kind >= 1) & (kind <= 7) {
             let called = direct(port, kind, a, b);
-            return answered(state, called);
+            return call_left(state, called);
         }
         // the direct call tests 8 itself; a kind without one must not come before it
         if port.valid() {
@@ -726,7 +726,7 @@ fn pins_number(pins: Pins) -> u64
     let clock = pins.clock;
     let transmit = pins.transmit;
     let driven = clock_number(clock) as u64;
-    let level = signals::level_number(transmit) as u64;
+    let level = pins::level_number(transmit) as u64;
     driven + (4 * level + 16 * bit(pins.receive))
 }
 
@@ -736,7 +736,7 @@ pub extern "C" fn sci3_pins(state: &[u64]) -> u64
     ensures { λ r. ⌜ r ≡ pins-answer (now (state .entry)) ⌝ }
 {
     if is_state(state) {
-        return pins_number(signals::pins(port_in(state)));
+        return pins_number(pins::pins(port_in(state)));
     }
     264
 }
@@ -747,7 +747,7 @@ pub extern "C" fn sci3_interrupt(state: &[u64]) -> u64
     ensures { λ r. ⌜ r ≡ interrupt-answer (now (state .entry)) ⌝ }
 {
     if is_state(state) {
-        return bit(signals::interrupt(port_in(state)));
+        return bit(pins::interrupt(port_in(state)));
     }
     264
 }

@@ -1,11 +1,11 @@
 // Runs document 01's cases as direct calls and prints what the port answers. The file `stdout` beside src/ has the document's own figures.
-use sci::Called;
-use sci::Outcome;
-use sci::Port;
-use words::Due;
-use words::Receiver;
-use words::Rx;
-use words::Tx;
+use port::Called;
+use port::Outcome;
+use port::Port;
+use shift::Due;
+use shift::Receiver;
+use shift::Rx;
+use shift::Tx;
 
 fn print_byte(n: u8) {
     let digits = [report::hex_digit(n / 16), report::hex_digit(n % 16)];
@@ -36,11 +36,11 @@ fn print_record(kind: u64, value: u8, port: Port) {
     io::write_all(1, b" ");
     print_byte(port.ssr);
     io::write_all(1, b" ");
-    let pins = signals::pins(port);
+    let pins = pins::pins(port);
     let transmit = pins.transmit;
-    print_level(signals::level_number(transmit));
+    print_level(pins::level_number(transmit));
     io::write_all(1, b" ");
-    io::print_decimal(1, one_if(signals::interrupt(port)));
+    io::print_decimal(1, one_if(pins::interrupt(port)));
     io::write_all(1, b"\n");
 }
 

@@ -12,38 +12,38 @@ use lib.Dec.{ltb}
 use borrow.Rule.Slice.PartAt.{part-to-end}
 use borrow.Rule.Slice.PartMut.{putMid}
 use borrow.Author.Tests.{lt-ltb, le-ltb, ltb-false}
-use Rattle.sci.specs.declared.Port.{Port}
+use Rattle.port.specs.declared.Port.{Port}
 use Rattle.frame.specs.Frame.{one-if}
-use Rattle.sci.specs.declared.Pins.{Pins}
-use Rattle.sci.specs.declared.Refusal.{Refusal}
-use Rattle.sci.specs.declared.Called.{Called}
-use Rattle.sci.specs.declared.Outcome.the-variants.{Done, Refused as Refusing}
-use Rattle.sci.specs.Calls.{Answer, done, refused, direct, number, answer}
-use Rattle.sci.specs.Valid.{valid}
-use Rattle.sci.specs.Pins.{pins, level-number, interrupt}
+use Rattle.port.specs.declared.Pins.{Pins}
+use Rattle.port.specs.declared.Refusal.{Refusal}
+use Rattle.port.specs.declared.Called.{Called}
+use Rattle.port.specs.declared.Outcome.the-variants.{Done, Refused as Refusing}
+use Rattle.port.specs.Calls.{Answer, done, refused, direct, number, answer}
+use Rattle.port.specs.Valid.{valid}
+use Rattle.port.specs.Pins.{pins, level-number, interrupt}
 use Rattle.script.specs.declared.Fault.{Fault}
 use Rattle.script.specs.declared.Fault.the-variants.{Short, Number, Kind, Operand}
-use Rattle.script.specs.declared.Command.{Command}
+use Rattle.command.specs.declared.Command.{Command}
 use Rattle.script.specs.declared.Decoded.{Decoded}
 use Rattle.script.specs.declared.Decoded.the-variants.{Command as Found, Refused as Refuses}
 use Rattle.script.specs.Number.{fault-number}
 use Rattle.script.specs.Command.{command-at}
 use Rattle.script.specs.Items.{item, items}
-use Rattle.script.specs.Write.{kind}
+use Rattle.command.specs.Command.{kind}
 use Rattle.branches.proofs.Branches.{either-way}
 use Rattle.store.proofs.Laws.{same-long}
 use Rattle.script.proofs.Items.{Moves, command-moves, items-next, items-none}
 use Rattle.player.specs.declared.Stepped.{Stepped}
 use Rattle.player.specs.declared.Stepped.the-variants.{Onward, Stopped}
 use Rattle.player.specs.declared.End.the-variants.{Accepted, Refused}
-use Rattle.player.specs.Play.{call-of, record-length, record-of, Run, ended, recorded, answered, play-items, play, ran}
-use Rattle.player.specs.Step.{refusal-of, Turn, onward, stopped, stepped, called, decoded, step, play-on}
+use Rattle.player.specs.Play.{record-length, record-of, Run, ended, recorded, answered, play-items, play, ran}
+use Rattle.player.specs.Step.{refusal-of, Turn, onward, stopped, stepped, call-turn, decoded, step, play-on}
 
 -- ---- one command
 
 -- the direct call of a command that is known
-pub call-as : (x c : Command) (p : Port) (z : Answer) → c ≡ x → z ≡ direct (call-of x) p → z ≡ direct (call-of c) p
-call-as x c p z h e = e ∙ sym (ap (λ (t : Command). direct (call-of t) p) h)
+pub call-as : (x c : Command) (p : Port) (z : Answer) → c ≡ x → z ≡ direct x p → z ≡ direct c p
+call-as x c p z h e = e ∙ sym (ap (λ (t : Command). direct t p) h)
 
 fault-same : (f : Fault) → number (refusal-of f) ≡ fault-number f
 fault-same Short = refl
@@ -67,12 +67,12 @@ module _ (p : Port) (s : List ℕ) (at : ℕ) (log : List ℕ) where
   step-fault f r h e d = rw (le-ltb (length log) record-length h, d, e) (ap (λ (n : ℕ). stopped n log) (fault-same f))
 
   pub step-refused : (c : Command) (next : ℕ) (r : Refusal) (offset : ℕ) (x : Called) → record-length ≤ length log → command-at s at ≡ Found c next →
-      answer x ≡ direct (call-of c) p → x .outcome ≡ Refusing r offset → stopped (number r) log ≡ step p s at log
+      answer x ≡ direct c p → x .outcome ≡ Refusing r offset → stopped (number r) log ≡ step p s at log
   unfolding step
   step-refused c next r offset x h d e o = rw (le-ltb (length log) record-length h, d, ← e, o)
 
   pub step-onward : (c : Command) (next v : ℕ) (x : Called) (after : List ℕ) → record-length ≤ length log → command-at s at ≡ Found c next →
-      answer x ≡ direct (call-of c) p → x .outcome ≡ Done v → after ≡ record-of c v (x .port) ++ drop record-length log → onward (x .port) next after ≡ step p s at log
+      answer x ≡ direct c p → x .outcome ≡ Done v → after ≡ record-of c v (x .port) ++ drop record-length log → onward (x .port) next after ≡ step p s at log
   unfolding step
   step-onward c next v x after h d e o w = rw (le-ltb (length log) record-length h, d, ← e, o, w)
 
@@ -83,7 +83,7 @@ module _ (p : Port) (s : List ℕ) (at : ℕ) (log : List ℕ) where
       (record-length ≤ length log) × (at < next) × (r ≡ recorded (take record-length l) (play-items q (items s next) (drop record-length l)))
 
   by-answer : (c : Command) (next : ℕ) (a : Answer) → at < next → record-length ≤ length log →
-      By (called next c log a) (answered at c p log (λ q. play-items q (items s next) (drop record-length log)) a)
+      By (call-turn next c log a) (answered at c p log (λ q. play-items q (items s next) (drop record-length log)) a)
   by-answer c next (done v q) h g = (g, h, refl)
   by-answer c next (refused n offset q) h g = (refl, refl)
 
@@ -92,7 +92,7 @@ module _ (p : Port) (s : List ℕ) (at : ℕ) (log : List ℕ) where
   by-decoded (Refuses why) h = either-way (ltb (length log) record-length) (λ t. rw t (refl, refl)) (λ t. rw t (refl, refl))
   by-decoded (Found c next) h =
       either-way (ltb (length log) record-length) (λ t. rw t (refl, refl))
-      (λ t. rw t (by-answer c next (direct (call-of c) p) h (ltb-false (length log) record-length t)))
+      (λ t. rw t (by-answer c next (direct c p) h (ltb-false (length log) record-length t)))
 
   by-step : at < length s → By (step p s at log) (play-items p (items s at) log)
   unfolding step

@@ -7,13 +7,13 @@ use native.Mathlib.Omega.{arith}
 use lib.ListN.{length, drop, length-drop}
 use lib.Dec.{ltb}
 use borrow.Author.Tests.{ltb-false}
-use Rattle.sci.specs.declared.Port.{Port}
-use Rattle.sci.specs.Calls.{Answer, done, refused, direct}
-use Rattle.sci.specs.Valid.{valid}
-use Rattle.script.specs.declared.Command.{Command}
+use Rattle.port.specs.declared.Port.{Port}
+use Rattle.port.specs.Calls.{Answer, done, refused, direct}
+use Rattle.port.specs.Valid.{valid}
+use Rattle.command.specs.declared.Command.{Command}
 use Rattle.script.specs.Items.{Item, call, stop, items}
 use Rattle.branches.proofs.Branches.{by-cond}
-use Rattle.player.specs.Play.{Run, call-of, record-length, ended, answered, play-items, play}
+use Rattle.player.specs.Play.{Run, record-length, ended, answered, play-items, play}
 
 pub record Within (log : List ℕ) (r : Run) : Type 0 where
   pub used : r .used ≤ length log
@@ -35,7 +35,7 @@ items-within p (stop at why ∷ is) log =
     by-cond (Within log) (ltb (length log) record-length) _ _ (λ t. stopped-within 9 at p log) (λ t. record { used = omega arith; long = refl })
 items-within p (call at c ∷ is) log =
     by-cond (Within log) (ltb (length log) record-length) _ _ (λ t. stopped-within 9 at p log)
-    (λ t. answered-within at c p log (λ q. play-items q is (drop record-length log)) (direct (call-of c) p) (ltb-false (length log) record-length t)
+    (λ t. answered-within at c p log (λ q. play-items q is (drop record-length log)) (direct c p) (ltb-false (length log) record-length t)
     (λ q. items-within q is (drop record-length log)))
 
 pub within : (p : Port) (s log : List ℕ) → Within log (play p s log)

@@ -7,28 +7,28 @@ use mathlib.Core.List.{List, [], _∷_, _++_}
 use lib.ListN.{length, drop}
 use lib.Dec.{ltb}
 use Rattle.frame.specs.Frame.{one-if}
-use Rattle.sci.specs.declared.Port.{Port}
-use Rattle.sci.specs.Calls.{Call, reads, writes, lets-pass, sets-line, sets-pins, sets-power, passes-inside, Answer, done, refused, direct, number}
-use Rattle.sci.specs.Pins.{transmit-level, level-number, interrupt}
-use Rattle.sci.specs.Valid.{valid}
-use Rattle.script.specs.declared.Command.{Command}
-use Rattle.script.specs.declared.Command.the-variants.{Read, Write, Wait, Line, Pins, Power, Inside}
+use Rattle.port.specs.declared.Port.{Port}
+use Rattle.command.specs.declared.Command.{Command}
+use Rattle.command.specs.declared.Command.the-variants.{Read, Write, Wait, Line, Pins, Power, Inside}
+use Rattle.port.specs.Calls.{Answer, done, refused, direct, number}
+use Rattle.port.specs.Pins.{transmit-level, level-number, interrupt}
+use Rattle.port.specs.Valid.{valid}
 use Rattle.script.specs.Number.{fault-number}
-use Rattle.script.specs.Write.{kind}
+use Rattle.command.specs.Command.{kind}
 use Rattle.script.specs.Items.{Item, call, stop, items}
 use Rattle.player.specs.declared.End.{End}
 use Rattle.player.specs.declared.End.the-variants.{Accepted, Refused}
 use Rattle.player.specs.declared.Played.{Played}
 
 -- the direct call of a command
-abbrev pub call-of : Command → Call
-call-of (Read a) = reads a
-call-of (Write a v) = writes a v
-call-of (Wait n) = lets-pass n
-call-of (Line b) = sets-line b
-call-of (Pins c b) = sets-pins c b
-call-of (Power b) = sets-power b
-call-of Inside = passes-inside
+abbrev pub call-of : Command → Command
+call-of (Read a) = Read a
+call-of (Write a v) = Write a v
+call-of (Wait n) = Wait n
+call-of (Line b) = Line b
+call-of (Pins c b) = Pins c b
+call-of (Power b) = Power b
+call-of Inside = Inside
 
 -- "After each command five bytes are appended to the lent log: kind, answer (the value read, else 0), SSR, transmit level (0, 1, or 2 when not
 -- driven), interrupt request (0 or 1)."

@@ -6,13 +6,13 @@ use mathlib.Core.Bool.{cond}
 use mathlib.Core.List.{List, _++_}
 use lib.ListN.{length, drop}
 use lib.Dec.{ltb}
-use Rattle.sci.specs.declared.Port.{Port}
-use Rattle.sci.specs.declared.Refusal.{Refusal}
-use Rattle.sci.specs.declared.Refusal.the-variants.{Short as TooShort, Number as NotANumber, Kind as NoKind, Operand as TooLarge}
-use Rattle.sci.specs.Calls.{Answer, done, refused, direct, number}
+use Rattle.port.specs.declared.Port.{Port}
+use Rattle.port.specs.declared.Refusal.{Refusal}
+use Rattle.port.specs.declared.Refusal.the-variants.{Short as TooShort, Number as NotANumber, Kind as NoKind, Operand as TooLarge}
+use Rattle.port.specs.Calls.{Answer, done, refused, direct, number}
 use Rattle.script.specs.declared.Fault.{Fault}
 use Rattle.script.specs.declared.Fault.the-variants.{Short, Number, Kind, Operand}
-use Rattle.script.specs.declared.Command.{Command}
+use Rattle.command.specs.declared.Command.{Command}
 use Rattle.script.specs.declared.Decoded.{Decoded}
 use Rattle.script.specs.declared.Decoded.the-variants.{Command as Found, Refused as Refuses}
 use Rattle.script.specs.Number.{fault-number}
@@ -20,7 +20,7 @@ use Rattle.script.specs.Command.{command-at}
 use Rattle.script.specs.Items.{items}
 use Rattle.player.specs.declared.Stepped.{Stepped}
 use Rattle.player.specs.declared.Stepped.the-variants.{Onward, Stopped}
-use Rattle.player.specs.Play.{Run, record-length, record-of, call-of, play-items}
+use Rattle.player.specs.Play.{Run, record-length, record-of, play-items}
 
 abbrev pub refusal-of : Fault → Refusal
 refusal-of Short = TooShort
@@ -37,13 +37,13 @@ abbrev pub stepped : Stepped → List ℕ → Turn
 stepped (Onward q next) log = onward q next log
 stepped (Stopped refusal) log = stopped (number refusal) log
 
-abbrev pub called : ℕ → Command → List ℕ → Answer → Turn
-called next c log (done v q) = onward q next (record-of c v q ++ drop record-length log)
-called next c log (refused n offset q) = stopped n log
+abbrev pub call-turn : ℕ → Command → List ℕ → Answer → Turn
+call-turn next c log (done v q) = onward q next (record-of c v q ++ drop record-length log)
+call-turn next c log (refused n offset q) = stopped n log
 
 abbrev pub decoded : Port → List ℕ → Decoded → Turn
 decoded p log (Refuses why) = stopped (fault-number why) log
-decoded p log (Found c next) = called next c log (direct (call-of c) p)
+decoded p log (Found c next) = call-turn next c log (direct c p)
 
 unfoldable pub step : Port → List ℕ → ℕ → List ℕ → Turn
 step p s at log = cond (ltb (length log) record-length) (stopped 9 log) (decoded p log (command-at s at))

@@ -4,13 +4,13 @@ ghost use mathlib.Core.List.{_++_};
 ghost use Prim.Native.Nat.{_≤_};
 ghost use lib.ListN.{length, drop};
 ghost use Rattle.frame.specs.Frame.{one-if};
-ghost use Rattle.sci.specs.Calls.{direct, answer};
-ghost use Rattle.player.specs.Play.{record-length, call-of, record-of, play, end-number, end-offset, ran};
+ghost use Rattle.port.specs.Calls.{direct, answer};
+ghost use Rattle.player.specs.Play.{record-length, record-of, play, end-number, end-offset, ran};
 ghost use Rattle.player.specs.Step.{refusal-of, play-on, stepped, step};
-use sci::Called;
-use sci::Outcome;
-use sci::Port;
-use sci::Refusal;
+use port::Called;
+use port::Outcome;
+use port::Port;
+use port::Refusal;
 use script::Command;
 use script::Decoded;
 use script::Fault;
@@ -20,7 +20,7 @@ pub const RECORD: usize = 5;
 
 // The direct call of a command.
 fn call(port: Port, command: Command) -> Called
-    ensures { λ r. ⌜ answer r ≡ direct (call-of command) port ⌝ }
+    ensures { λ r. ⌜ answer r ≡ direct command port ⌝ }
 {
     match command {
         Command::Read { address } => port.read(address),
@@ -57,10 +57,10 @@ fn write_record(log: &mut [u8], command: Command, value: u8, port: Port)
     ensures { λ _. ⌜ now (log .exit) ≡ record-of command value port ++ drop record-length (now (log .entry)) ⌝ }
 {
     let kind = command.kind();
-    let pins = signals::pins(port);
+    let pins = pins::pins(port);
     let transmit = pins.transmit;
-    let level = signals::level_number(transmit);
-    let interrupt = one_if(signals::interrupt(port));
+    let level = pins::level_number(transmit);
+    let interrupt = one_if(pins::interrupt(port));
     log[0] = kind;
     log[1] = value;
     log[2] = port.ssr;

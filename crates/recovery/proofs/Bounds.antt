@@ -10,18 +10,18 @@ use lib.Bits.{bitOr}
 use lib.IntN.{ℤ, pos, negsuc}
 use borrow.Author.Tests.{ltb-true, eqb-true, eq-eqb, ne-eqb, not-true}
 use Rattle.frame.specs.declared.Format.{Format}
-use Rattle.words.specs.declared.Due.{Due}
-use Rattle.words.specs.declared.Due.the-variants.{At, Never}
-use Rattle.words.specs.declared.Receiver.{Receiver}
-use Rattle.words.specs.declared.Receiver.the-variants.{Busy, Idle}
-use Rattle.words.specs.declared.Rx.{Rx}
-use Rattle.words.specs.declared.Sampled.{Sampled}
-use Rattle.words.specs.declared.Sampled.the-variants.{Dropped, Onward, Whole}
+use Rattle.shift.specs.declared.Due.{Due}
+use Rattle.shift.specs.declared.Due.the-variants.{At, Never}
+use Rattle.shift.specs.declared.Receiver.{Receiver}
+use Rattle.shift.specs.declared.Receiver.the-variants.{Busy, Idle}
+use Rattle.shift.specs.declared.Rx.{Rx}
+use Rattle.shift.specs.declared.Sampled.{Sampled}
+use Rattle.shift.specs.declared.Sampled.the-variants.{Dropped, Onward, Whole}
 use Rattle.frame.proofs.Truth.{and-left, and-right}
 use Rattle.frame.proofs.Words.{Shape, format-good, shape}
 use Rattle.frame.specs.Frame.{differ, format, has, one-if}
-use Rattle.words.specs.Receiver.{armed, sample, sample-at, started, stepped, stopped}
-use Rattle.words.specs.Due.{due-now}
+use Rattle.shift.specs.Receiver.{armed, sample, sample-at, started, stepped, stopped}
+use Rattle.shift.specs.Due.{due-now}
 use Rattle.branches.proofs.Branches.{by-cond, or-right}
 use Rattle.frame.proofs.Laws.{one-if≤}
 use Rattle.recovery.proofs.View.{View, fall, v-advance, v-advance-on, v-arm, v-arm-on, v-basic, v-can-arm, v-complete, v-outcome, v-rx}

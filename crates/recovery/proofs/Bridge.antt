@@ -8,22 +8,24 @@ use mathlib.Core.Bool.{Bool, true, false, cond, _&&_, true≢false}
 use mathlib.Core.List.{List, [], _∷_, _++_}
 use lib.Dec.{eqb, leb}
 use borrow.Author.Tests.{leb-true, leb-false}
-use Rattle.sci.specs.Calls.{run as port-run, Answer, Call, after, bit, called, direct, done, lets-pass, passes-inside, reads, refuse, sets-line, sets-pins, sets-power, writes}
-use Rattle.sci.specs.declared.Port.{Port}
+use Rattle.port.specs.Calls.{run as port-run, Answer, after, bit, called, direct, done, refuse}
+use Rattle.command.specs.declared.Command.{Command}
+use Rattle.command.specs.declared.Command.the-variants.{Wait, Inside, Read, Line, Pins, Power, Write}
+use Rattle.port.specs.declared.Port.{Port}
 use Rattle.frame.specs.Frame.{differ, has}
-use Rattle.sci.specs.Baud.{edge-counts, internal}
-use Rattle.sci.specs.Half.{half-step, halves, uncounted}
-use Rattle.sci.specs.Pins.{pins-change}
-use Rattle.sci.specs.Receiver.{input-level}
-use Rattle.sci.specs.Registers.{handles}
-use Rattle.sci.specs.Valid.{limit, valid}
+use Rattle.port.specs.Baud.{edge-counts, internal}
+use Rattle.port.specs.Half.{half-step, halves, uncounted}
+use Rattle.port.specs.Pins.{pins-change}
+use Rattle.port.specs.Receiver.{input-level}
+use Rattle.port.specs.Registers.{handles}
+use Rattle.port.specs.Valid.{limit, valid}
 use Rattle.branches.proofs.Branches.{both-arms, by-cond}
-use Rattle.laws.proofs.Laws.{direct-valid}
+use Rattle.port_laws.proofs.Laws.{direct-valid}
 use Rattle.recovery.specs.Line.{half-passes}
-use Rattle.recovery.specs.Recovery.{Moment, Wired, allowed-in-rest, allowed-in-words, by-8, call-trace, completes, each, line-at-mark, run, step, trace, wait-trace, waited}
+use Rattle.recovery.specs.Recovery.{Moment, Wired, allowed-in-rest, allowed-in-words, by-8, call-trace, completes, each, line-at-mark, run-wired, wired-after, trace, wait-trace, waited}
 use Rattle.recovery.proofs.Halfwise.{each-call, half-moments, moments, moments-of, rests}
 use Rattle.recovery.proofs.Halves.{Core, core-half}
-use Rattle.recovery.proofs.LineFold.{Lined, lined-step}
+use Rattle.recovery.proofs.LineFold.{Lined, lined-after}
 use Rattle.recovery.proofs.Reached.{Near, near-half}
 use Rattle.recovery.proofs.RestCalls.{near-direct}
 
@@ -73,7 +75,7 @@ module _ (s : Wired) (l : Lined s) (v : valid (s .port) ≡ true) (t : Near (s .
   marks : line-at-mark s ≡ input-level (s .port)
   marks = ap (λ (b : Bool). differ b (has (s .port .spcr) 1)) (sym l)
 
-  wait-call : (n : ℕ) → call-trace direct (lets-pass n) (direct (lets-pass n) (s .port)) s ≡ moments-of (lets-pass n) (direct (lets-pass n) (s .port)) (s .port)
+  wait-call : (n : ℕ) → call-trace direct (Wait n) (direct (Wait n) (s .port)) s ≡ moments-of (Wait n) (direct (Wait n) (s .port)) (s .port)
   unfolding direct called halves
   wait-call n =
       by-cond Is (valid p) _ (refuse 8 p)
@@ -90,16 +92,16 @@ module _ (s : Wired) (l : Lined s) (v : valid (s .port) ≡ true) (t : Near (s .
       p = s .port
 
       Is : Answer → Type 0
-      Is r = call-trace direct (lets-pass n) r s ≡ moments-of (lets-pass n) r (s .port)
+      Is r = call-trace direct (Wait n) r s ≡ moments-of (Wait n) r (s .port)
 
-  call-is : (c : Call) → call-trace direct c (direct c (s .port)) s ≡ moments-of c (direct c (s .port)) (s .port)
-  call-is (lets-pass n) = wait-call n
-  call-is (reads a) = refl
-  call-is (writes a w) = refl
-  call-is (sets-line b) = refl
-  call-is (sets-pins c b) = refl
-  call-is (sets-power b) = refl
-  call-is passes-inside = refl
+  call-is : (c : Command) → call-trace direct c (direct c (s .port)) s ≡ moments-of c (direct c (s .port)) (s .port)
+  call-is (Wait n) = wait-call n
+  call-is (Read a) = refl
+  call-is (Write a w) = refl
+  call-is (Line b) = refl
+  call-is (Pins c b) = refl
+  call-is (Power b) = refl
+  call-is Inside = refl
 
 -- what is kept from call to call: the line, the field test, the bound
 pub record Grown (s : Wired) : Type 0 where
@@ -107,52 +109,52 @@ pub record Grown (s : Wired) : Type 0 where
   pub tested : valid (s .port) ≡ true
   pub near : Near (s .port)
 
-pub grown-step : (c : Call) (s : Wired) → Grown s → Grown (step c (direct c (s .port)) s)
-grown-step c s g = record { lined = lined-step c s (g .lined); tested = direct-valid c (s .port) (g .tested); near = near-direct c (s .port) (g .near) }
+pub grown-after : (c : Command) (s : Wired) → Grown s → Grown (wired-after c (direct c (s .port)) s)
+grown-after c s g = record { lined = lined-after c s (g .lined); tested = direct-valid c (s .port) (g .tested); near = near-direct c (s .port) (g .near) }
 
-pub grown-run : (cs : List Call) (s : Wired) → Grown s → Grown (run direct s cs)
-unfolding run
+pub grown-run : (cs : List Command) (s : Wired) → Grown s → Grown (run-wired direct s cs)
+unfolding run-wired
 grown-run [] s g = g
-grown-run (c ∷ cs) s g = grown-run cs (step c (direct c (s .port)) s) (grown-step c s g)
+grown-run (c ∷ cs) s g = grown-run cs (wired-after c (direct c (s .port)) s) (grown-after c s g)
 
-pub run-is : (cs : List Call) (s : Wired) → port-run (s .port) cs ≡ run direct s cs .port
-unfolding run port-run
+pub run-is : (cs : List Command) (s : Wired) → port-run (s .port) cs ≡ run-wired direct s cs .port
+unfolding run-wired port-run
 run-is [] s = refl
-run-is (c ∷ cs) s = run-is cs (step c (direct c (s .port)) s)
+run-is (c ∷ cs) s = run-is cs (wired-after c (direct c (s .port)) s)
 
-pub trace-is : (cs : List Call) (s : Wired) → Grown s → trace direct s cs ≡ moments (s .port) cs
+pub trace-is : (cs : List Command) (s : Wired) → Grown s → trace direct s cs ≡ moments (s .port) cs
 unfolding trace moments
 trace-is [] s g = refl
-trace-is (c ∷ cs) s g = ap₂ (λ (x y : List Moment). x ++ y) (call-is s (g .lined) (g .tested) (g .near) c) (trace-is cs (step c (direct c (s .port)) s) (grown-step c s g))
+trace-is (c ∷ cs) s g = ap₂ (λ (x y : List Moment). x ++ y) (call-is s (g .lined) (g .tested) (g .near) c) (trace-is cs (wired-after c (direct c (s .port)) s) (grown-after c s g))
 
-pub rest-calls : (cs : List Call) (s : Wired) → Lined s → each direct (λ c a q. allowed-in-rest c a × (line-at-mark q ≡ true)) s cs → each-call rests (s .port) cs
+pub rest-calls : (cs : List Command) (s : Wired) → Lined s → each direct (λ c a q. allowed-in-rest c a × (line-at-mark q ≡ true)) s cs → each-call rests (s .port) cs
 rest-calls [] s l e = tt
 rest-calls (c ∷ cs) s l e =
-    let l′ : Lined (step c (direct c (s .port)) s) = lined-step c s l in
-    ((e .0 .0, ap (λ (b : Bool). differ b (has (step c (direct c (s .port)) s .port .spcr) 1)) l′ ∙ e .0 .1), rest-calls cs (step c (direct c (s .port)) s) l′ (e .1))
+    let l′ : Lined (wired-after c (direct c (s .port)) s) = lined-after c s l in
+    ((e .0 .0, ap (λ (b : Bool). differ b (has (wired-after c (direct c (s .port)) s .port .spcr) 1)) l′ ∙ e .0 .1), rest-calls cs (wired-after c (direct c (s .port)) s) l′ (e .1))
 
-pub words-calls : (cs : List Call) (s : Wired) → each direct (λ c a q. allowed-in-words c a) s cs → each-call (λ c a q. allowed-in-words c a) (s .port) cs
+pub words-calls : (cs : List Command) (s : Wired) → each direct (λ c a q. allowed-in-words c a) s cs → each-call (λ c a q. allowed-in-words c a) (s .port) cs
 words-calls [] s e = tt
-words-calls (c ∷ cs) s e = (e .0, words-calls cs (step c (direct c (s .port)) s) (e .1))
+words-calls (c ∷ cs) s e = (e .0, words-calls cs (wired-after c (direct c (s .port)) s) (e .1))
 
 -- ---- never refused by 8
 Other : Answer → Type 0
 Other r = by-8 r ≡ false
 
-named : (c : Call) (p : Port) → Other (called c p)
+named : (c : Command) (p : Port) → Other (called c p)
 unfolding called Other
-named (reads a) p = both-arms Other (leb a 65535) _ _ (both-arms Other (handles a) _ _ refl refl) refl
-named (writes a v) p = both-arms Other (leb a 65535 && leb v 255) _ _ (both-arms Other (handles a) _ _ (both-arms Other (eqb a 0xffa7 && leb 128 v) _ _ refl refl) refl) refl
-named (lets-pass n) p = both-arms Other (leb n 65535) _ _ (both-arms Other (internal p) _ _ (both-arms Other (leb (p .half + n) limit) _ _ refl refl) refl) refl
-named (sets-line b) p = both-arms Other (leb b 1) _ _ refl refl
-named (sets-pins c b) p = both-arms Other (leb c 1 && leb b 1) _ _ (both-arms Other (pins-change (bit c) (bit b) p && (edge-counts (bit c) p && leb limit (p .half))) _ _ refl refl) refl
-named (sets-power b) p = both-arms Other (leb b 15) _ _ refl refl
-named passes-inside p = refl
+named (Read a) p = both-arms Other (leb a 65535) _ _ (both-arms Other (handles a) _ _ refl refl) refl
+named (Write a v) p = both-arms Other (leb a 65535 && leb v 255) _ _ (both-arms Other (handles a) _ _ (both-arms Other (eqb a 0xffa7 && leb 128 v) _ _ refl refl) refl) refl
+named (Wait n) p = both-arms Other (leb n 65535) _ _ (both-arms Other (internal p) _ _ (both-arms Other (leb (p .half + n) limit) _ _ refl refl) refl) refl
+named (Line b) p = both-arms Other (leb b 1) _ _ refl refl
+named (Pins c b) p = both-arms Other (leb c 1 && leb b 1) _ _ (both-arms Other (pins-change (bit c) (bit b) p && (edge-counts (bit c) p && leb limit (p .half))) _ _ refl refl) refl
+named (Power b) p = both-arms Other (leb b 15) _ _ refl refl
+named Inside p = refl
 
-not-by-8 : (c : Call) (p : Port) → valid p ≡ true → by-8 (direct c p) ≡ false
+not-by-8 : (c : Command) (p : Port) → valid p ≡ true → by-8 (direct c p) ≡ false
 unfolding direct Other
 not-by-8 c p v = by-cond Other (valid p) (called c p) (refuse 8 p) (λ e. named c p) (λ e. absurd (true≢false (sym v ∙ e)))
 
-pub never-by-8 : (cs : List Call) (s : Wired) → Grown s → each direct (λ c a q. by-8 a ≡ false) s cs
+pub never-by-8 : (cs : List Command) (s : Wired) → Grown s → each direct (λ c a q. by-8 a ≡ false) s cs
 never-by-8 [] s g = tt
-never-by-8 (c ∷ cs) s g = (not-by-8 c (s .port) (g .tested), never-by-8 cs (step c (direct c (s .port)) s) (grown-step c s g))
+never-by-8 (c ∷ cs) s g = (not-by-8 c (s .port) (g .tested), never-by-8 cs (wired-after c (direct c (s .port)) s) (grown-after c s g))

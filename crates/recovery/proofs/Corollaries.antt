@@ -8,19 +8,21 @@ use mathlib.Core.List.{List, [], _∷_, _++_}
 use lib.Dec.{eqb, ltb, leb}
 use lib.ListN.{getD}
 use borrow.Author.Tests.{le-ltb, le-leb, ltb-true, leb-true, leb-false}
-use Rattle.sci.specs.Calls.{run as port-run, Answer, Call, after, called, direct, done, lets-pass, passes-inside, reads, refuse, refused, sets-line, sets-pins, sets-power, writes}
+use Rattle.port.specs.Calls.{run as port-run, Answer, after, called, direct, done, refuse, refused}
+use Rattle.command.specs.declared.Command.{Command}
+use Rattle.command.specs.declared.Command.the-variants.{Wait, Inside, Read, Line, Pins, Power, Write}
 use Rattle.frame.specs.declared.Format.{Format}
-use Rattle.sci.specs.declared.Port.{Port}
+use Rattle.port.specs.declared.Port.{Port}
 use Rattle.frame.specs.Frame.{has, one-if, stop}
-use Rattle.sci.specs.Baud.{format-of, internal}
-use Rattle.sci.specs.Half.{half-step, halves, uncounted}
-use Rattle.sci.specs.Valid.{limit, valid}
+use Rattle.port.specs.Baud.{format-of, internal}
+use Rattle.port.specs.Half.{half-step, halves, uncounted}
+use Rattle.port.specs.Valid.{limit, valid}
 use Rattle.branches.proofs.Branches.{by-cond}
-use Rattle.laws.proofs.Laws.{refused-stands}
-use Rattle.laws.specs.Laws.{Refused-stands}
+use Rattle.port_laws.proofs.Laws.{refused-stands}
+use Rattle.port_laws.specs.Laws.{Refused-stands}
 use Rattle.recovery.specs.Corollaries.{Demand, EndsThere, HearsTheLine, NthWord, OneList, cell-begins, cell-ends, completions-between, completions-of, every, halves-in, last-port, one-completion, rdrf-after, tally-step}
-use Rattle.recovery.specs.Line.{Count, Event, Item, count-after, half-passes, mark, none-yet, other, rdr-read, span, span-of, stop-cells-begun, stop-cells-passed, tally-after, values, word-of, words-in}
-use Rattle.recovery.specs.Recovery.{Moment, Once, Recovered, Recovers, Wired, answer-is, completed, one-moment, run, start, step, throughout, trace}
+use Rattle.recovery.specs.Line.{Count, Event, LineItem, count-after, half-passes, mark, none-yet, other, rdr-read, span, span-of, stop-cells-begun, stop-cells-passed, tally-after, values, word-of, words-in}
+use Rattle.recovery.specs.Recovery.{Moment, Once, Recovered, Recovers, Wired, answer-is, completed, one-moment, run-wired, start, wired-after, throughout, trace}
 use Rattle.recovery.proofs.Bounds.{format-sound}
 use Rattle.recovery.proofs.Bridge.{grown-run, run-is, trace-is}
 use Rattle.recovery.proofs.Halfwise.{half-moments, moments, moments-of}
@@ -31,7 +33,7 @@ use Rattle.frame.proofs.Laws.{one-if≤}
 use Rattle.recovery.proofs.Words.{at-least, passed-zero}
 
 -- ---- moment by moment
-rdrf-is : (first : Port) (items : List Item) (ms : List Moment) (p : Port) (c : Count) → has (p .ssr) 0x40 ≡ c .unread → throughout first items c ms
+rdrf-is : (first : Port) (items : List LineItem) (ms : List Moment) (p : Port) (c : Count) → has (p .ssr) 0x40 ≡ c .unread → throughout first items c ms
     → every (λ q m. has (m .port .ssr) 0x40 ≡ rdrf-after (m .event) (has (q .ssr) 0x40)) p ms
 rdrf-is first items [] p c e a = tt
 rdrf-is first items (m ∷ ms) p c e a = (a .0 .rdrf ∙ go (m .event), rdrf-is first items ms (m .port) (count-after c (m .event)) (a .0 .rdrf) (a .1))
@@ -42,12 +44,12 @@ rdrf-is first items (m ∷ ms) p c e a = (a .0 .rdrf ∙ go (m .event), rdrf-is 
     go (rdr-read v) = refl
     go other = sym e
 
-no-error-is : (first : Port) (items : List Item) (ms : List Moment) (p : Port) (c : Count) → throughout first items c ms
+no-error-is : (first : Port) (items : List LineItem) (ms : List Moment) (p : Port) (c : Count) → throughout first items c ms
     → every (λ q m. has (m .port .ssr) 0x38 ≡ false) p ms
 no-error-is first items [] p c a = tt
 no-error-is first items (m ∷ ms) p c a = (a .0 .no-error, no-error-is first items ms (m .port) (count-after c (m .event)) (a .1))
 
-tally-is : (first : Port) (items : List Item) (ms : List Moment) (p : Port) (c : Count) → p .received ≡ tally-after (c .completions) (first .received) → throughout first items c ms
+tally-is : (first : Port) (items : List LineItem) (ms : List Moment) (p : Port) (c : Count) → p .received ≡ tally-after (c .completions) (first .received) → throughout first items c ms
     → every (λ q m. m .port .received ≡ tally-step (m .event) (q .received)) p ms
 unfolding tally-after
 tally-is first items [] p c e a = tt
@@ -61,10 +63,10 @@ tally-is first items (m ∷ ms) p c e a = (a .0 .tally ∙ go (m .event), tally-
 
 -- ---- words by number
 -- a word, with one item more before it
-behind : (i : Item) (is : List Item) (n m : ℕ) (w : NthWord is n) → words-in (i ∷ w .earlier) ≡ m → NthWord (i ∷ is) m
-behind i is n m w e = record { earlier = i ∷ w .earlier; value = w .value; later = w .later; split = ap (λ (xs : List Item). i ∷ xs) (w .split); place = e }
+behind : (i : LineItem) (is : List LineItem) (n m : ℕ) (w : NthWord is n) → words-in (i ∷ w .earlier) ≡ m → NthWord (i ∷ is) m
+behind i is n m w e = record { earlier = i ∷ w .earlier; value = w .value; later = w .later; split = ap (λ (xs : List LineItem). i ∷ xs) (w .split); place = e }
 
-nth-word : (f : Format) (items : List Item) (n : ℕ) → n < words-in items → (w : NthWord items n) × (getD (values f items) n 0 ≡ w .value % 2 ^ f .«data»)
+nth-word : (f : Format) (items : List LineItem) (n : ℕ) → n < words-in items → (w : NthWord items n) × (getD (values f items) n 0 ≡ w .value % 2 ^ f .«data»)
 unfolding behind words-in values
 nth-word f [] n h = let z : ⊥ = omega arith in absurd z
 nth-word f (mark k ∷ is) n h =
@@ -75,14 +77,14 @@ nth-word f (word-of v ∷ is) (suc n) h =
     let w : (w : NthWord is n) × (getD (values f is) n 0 ≡ w .value % 2 ^ f .«data») = nth-word f is n (omega arith) in
     (behind (word-of v) is n (suc n) (w .0) (ap suc (w .0 .place)), w .1)
 
-begun-words : (f : Format) (items : List Item) (k : ℕ) → stop-cells-begun f items k ≤ words-in items
+begun-words : (f : Format) (items : List LineItem) (k : ℕ) → stop-cells-begun f items k ≤ words-in items
 unfolding words-in stop-cells-begun
 begun-words f [] k = omega arith
 begun-words f (mark n ∷ is) k = begun-words f is (k - n)
 begun-words f (word-of v ∷ is) k = omega (arith, one-if≤ (ltb (stop f * f .«half_bit») k), begun-words f is (k - span f))
 
 -- a read of RDR, with what stands before it
-at-read : (first : Port) (items : List Item) (before after : List Moment) (m : Moment) (a n : ℕ) (c : Count) → throughout first items c (before ++ (m ∷ after))
+at-read : (first : Port) (items : List LineItem) (before after : List Moment) (m : Moment) (a n : ℕ) (c : Count) → throughout first items c (before ++ (m ∷ after))
     → m .event ≡ rdr-read a → c .completions + completions-of before ≡ suc n → (suc n ≤ words-in items) × (a ≡ getD (values (format-of first) items) n 0)
 unfolding completions-of
 at-read first items [] after m a n c t e q = go (m .event) e (t .0 .most) (t .0 .answer)
@@ -108,7 +110,7 @@ module _ (f : Format) (long : 16 ≤ f .«half_bit») (st : 0 < f .stops) where
   whole-cell = let b : f .«half_bit» ≤ f .stops * f .«half_bit» = at-least (f .stops) (f .«half_bit») st in omega arith
 
   -- first stop cells do not overlap
-  begun-near : (is : List Item) (k : ℕ) → stop-cells-begun f is (suc k) ≤ suc (stop-cells-passed f is k)
+  begun-near : (is : List LineItem) (k : ℕ) → stop-cells-begun f is (suc k) ≤ suc (stop-cells-passed f is k)
   unfolding stop-cells-begun stop-cells-passed
   begun-near [] k = omega arith
   begun-near (mark n ∷ is) k = go (begun-near is (k - n)) (leb n k) refl
@@ -136,27 +138,27 @@ module _ (f : Format) (long : 16 ≤ f .«half_bit») (st : 0 < f .stops) where
           let g : suc k - span f ≡ 0 = omega arith in
           rw g (omega (arith, begun-zero f is, one-if≤ (ltb (stop f * f .«half_bit») (suc k))))
 
-  abbrev Inside : List Item → ℕ → Type 0
-  Inside is k = (w : NthWord is (stop-cells-passed f is k)) × (cell-begins f (w .earlier) ≤ k) × (k < cell-ends f (w .earlier))
+  abbrev InStopCell : List LineItem → ℕ → Type 0
+  InStopCell is k = (w : NthWord is (stop-cells-passed f is k)) × (cell-begins f (w .earlier) ≤ k) × (k < cell-ends f (w .earlier))
 
   -- a first stop cell that has begun and not passed
-  inside : (is : List Item) (k : ℕ) → stop-cells-passed f is k < stop-cells-begun f is (suc k) → Inside is k
+  in-stop-cell : (is : List LineItem) (k : ℕ) → stop-cells-passed f is k < stop-cells-begun f is (suc k) → InStopCell is k
   unfolding behind stop-cells-begun stop-cells-passed span-of words-in
-  inside [] k h = let z : ⊥ = omega arith in absurd z
-  inside (mark n ∷ is) k h = go (inside is (k - n)) (leb n k) refl
+  in-stop-cell [] k h = let z : ⊥ = omega arith in absurd z
+  in-stop-cell (mark n ∷ is) k h = go (in-stop-cell is (k - n)) (leb n k) refl
     where
-      go : (stop-cells-passed f is (k - n) < stop-cells-begun f is (suc (k - n)) → Inside is (k - n)) → (b : Bool) → leb n k ≡ b → Inside (mark n ∷ is) k
+      go : (stop-cells-passed f is (k - n) < stop-cells-begun f is (suc (k - n)) → InStopCell is (k - n)) → (b : Bool) → leb n k ≡ b → InStopCell (mark n ∷ is) k
       go ih true e =
           let le : n ≤ k = leb-true n k e in
           let g : suc k - n ≡ suc (k - n) = omega arith in
-          let w : Inside is (k - n) = ih (rw g at h) in
+          let w : InStopCell is (k - n) = ih (rw g at h) in
           (behind (mark n) is (stop-cells-passed f is (k - n)) (stop-cells-passed f is (k - n)) (w .0) (w .0 .place), omega arith, omega arith)
       go ih false e =
           let lt : k < n = leb-false n k e in
           let g : suc k - n ≡ 0 = omega arith in
           let z : ⊥ = omega (arith, begun-zero f is, rw g at h) in
           absurd z
-  inside (word-of v ∷ is) k h = go (inside is (k - span f)) (leb (span f) k) refl
+  in-stop-cell (word-of v ∷ is) k h = go (in-stop-cell is (k - span f)) (leb (span f) k) refl
     where
       here : (x y : Bool) → ltb (stop f * f .«half_bit») (suc k) ≡ x → leb (suc (stop f) * f .«half_bit») k ≡ y → one-if y + stop-cells-passed f is 0 < one-if x + 0
           → (stop f * f .«half_bit» ≤ k) × (k < suc (stop f) * f .«half_bit») × (y ≡ false)
@@ -165,7 +167,7 @@ module _ (f : Format) (long : 16 ≤ f .«half_bit») (st : 0 < f .stops) where
       here false true e g q = let z : ⊥ = omega arith in absurd z
       here false false e g q = let z : ⊥ = omega arith in absurd z
 
-      go : (stop-cells-passed f is (k - span f) < stop-cells-begun f is (suc (k - span f)) → Inside is (k - span f)) → (b : Bool) → leb (span f) k ≡ b → Inside (word-of v ∷ is) k
+      go : (stop-cells-passed f is (k - span f) < stop-cells-begun f is (suc (k - span f)) → InStopCell is (k - span f)) → (b : Bool) → leb (span f) k ≡ b → InStopCell (word-of v ∷ is) k
       go ih true e =
           let le : span f ≤ k = leb-true (span f) k e in
           let g : suc k - span f ≡ suc (k - span f) = omega arith in
@@ -173,7 +175,7 @@ module _ (f : Format) (long : 16 ≤ f .«half_bit») (st : 0 < f .stops) where
           let s : one-if (leb (suc (stop f) * f .«half_bit») k) ≡ 1 = ap one-if t in
           let u : stop-cells-passed f is (k - span f) < stop-cells-begun f is (suc (k - span f))
           = omega (arith, rw g at h, s, one-if≤ (ltb (stop f * f .«half_bit») (suc k))) in
-          let w : Inside is (k - span f) = ih u in
+          let w : InStopCell is (k - span f) = ih u in
           (behind (word-of v) is (stop-cells-passed f is (k - span f)) (one-if (leb (suc (stop f) * f .«half_bit») k) + stop-cells-passed f is (k - span f)) (w .0) (omega (arith, w .0 .place, s)), omega arith, omega arith)
       go ih false e =
           let lt : k < span f = leb-false (span f) k e in
@@ -184,7 +186,7 @@ module _ (f : Format) (long : 16 ≤ f .«half_bit») (st : 0 < f .stops) where
           (record { earlier = []; value = v; later = is; split = refl; place = rw (g′, passed-zero f (omega (arith, long)) is, q .2) }, omega arith, omega arith)
 
 -- ---- the sentences
-module _ (first : Port) (items : List Item) (ms : List Moment) (al : throughout first items none-yet ms) where
+module _ (first : Port) (items : List LineItem) (ms : List Moment) (al : throughout first items none-yet ms) where
   sure : (k : ℕ) → k ≤ halves-in ms → Between (format-of first) items k (completed ms k)
   sure = between first items ms al
 
@@ -195,21 +197,21 @@ module _ (first : Port) (items : List Item) (ms : List Moment) (al : throughout 
   has-stop = format-sound (first .smr) (first .semr) .stops
 
   -- j halves into the items zs, with no first stop cell begun in them, the completions are those of the words before
-  as-before : (xs zs : List Item) (j : ℕ) → items ≡ xs ++ zs → stop-cells-begun (format-of first) zs j ≡ 0 → span-of (format-of first) xs + j ≤ halves-in ms
+  as-before : (xs zs : List LineItem) (j : ℕ) → items ≡ xs ++ zs → stop-cells-begun (format-of first) zs j ≡ 0 → span-of (format-of first) xs + j ≤ halves-in ms
       → completed ms (span-of (format-of first) xs + j) ≡ words-in xs
   as-before xs zs j e z l =
       let b : Between (format-of first) (xs ++ zs) (span-of (format-of first) xs + j) (completed ms (span-of (format-of first) xs + j))
-      = subst (λ (is : List Item). Between (format-of first) is (span-of (format-of first) xs + j) (completed ms (span-of (format-of first) xs + j))) e (sure (span-of (format-of first) xs + j) l) in
+      = subst (λ (is : List LineItem). Between (format-of first) is (span-of (format-of first) xs + j) (completed ms (span-of (format-of first) xs + j))) e (sure (span-of (format-of first) xs + j) l) in
       omega (arith, b .least, b .most, begun-past (format-of first) cell-is-long has-stop xs zs j, passed-past (format-of first) cell-is-long has-stop xs zs j)
 
-  in-mark : (xs ys : List Item) (n k : ℕ) → items ≡ xs ++ (mark n ∷ ys) → k ≤ n → span-of (format-of first) xs + k ≤ halves-in ms
+  in-mark : (xs ys : List LineItem) (n k : ℕ) → items ≡ xs ++ (mark n ∷ ys) → k ≤ n → span-of (format-of first) xs + k ≤ halves-in ms
       → completed ms (span-of (format-of first) xs + k) ≡ words-in xs
   unfolding stop-cells-begun
   in-mark xs ys n k e h l =
       let g : k - n ≡ 0 = omega arith in
       as-before xs (mark n ∷ ys) k e (ap (stop-cells-begun (format-of first) ys) g ∙ begun-zero (format-of first) ys) l
 
-  whole-word : ((xs ys : List Item) (v : ℕ) → items ≡ xs ++ (word-of v ∷ ys) → Once (format-of first) ms xs) → (n : ℕ) (w : NthWord items n)
+  whole-word : ((xs ys : List LineItem) (v : ℕ) → items ≡ xs ++ (word-of v ∷ ys) → Once (format-of first) ms xs) → (n : ℕ) (w : NthWord items n)
       → cell-ends (format-of first) (w .earlier) ≤ halves-in ms
       → (completions-between ms (cell-begins (format-of first) (w .earlier)) (cell-ends (format-of first) (w .earlier)) ≡ 1)
       × (completed ms (cell-begins (format-of first) (w .earlier)) ≡ n)
@@ -219,7 +221,7 @@ module _ (first : Port) (items : List Item) (ms : List Moment) (al : throughout 
       let b : completed ms (cell-ends (format-of first) (w .earlier)) ≡ suc (words-in (w .earlier)) = o .through l in
       (omega arith, a ∙ w .place)
 
-  cut-word : ((xs ys : List Item) (v : ℕ) → items ≡ xs ++ (word-of v ∷ ys) → Once (format-of first) ms xs) → (n : ℕ) (w : NthWord items n)
+  cut-word : ((xs ys : List LineItem) (v : ℕ) → items ≡ xs ++ (word-of v ∷ ys) → Once (format-of first) ms xs) → (n : ℕ) (w : NthWord items n)
       → cell-begins (format-of first) (w .earlier) ≤ halves-in ms → halves-in ms ≤ cell-ends (format-of first) (w .earlier)
       → (completions-between ms (cell-begins (format-of first) (w .earlier)) (halves-in ms) ≤ 1)
       × (completed ms (cell-begins (format-of first) (w .earlier)) ≡ n)
@@ -253,12 +255,12 @@ module _ (first : Port) (items : List Item) (ms : List Moment) (al : throughout 
       let c : stop-cells-begun (format-of first) items (suc k) ≤ suc (stop-cells-passed (format-of first) items k) = begun-near (format-of first) cell-is-long has-stop items k in
       let q : stop-cells-passed (format-of first) items k ≡ completed ms k = omega arith in
       subst (λ (n : ℕ). (w : NthWord items n) × (cell-begins (format-of first) (w .earlier) ≤ k) × (k < cell-ends (format-of first) (w .earlier))) q
-      (inside (format-of first) cell-is-long has-stop items k (omega arith))
+      (in-stop-cell (format-of first) cell-is-long has-stop items k (omega arith))
 
-pub demanded : (port : Call → Port → Answer) → Recovers port → Demand port
+pub demanded : (port : Command → Port → Answer) → Recovers port → Demand port
 unfolding Recovers Demand tally-after
 demanded port claim history rest words items he rs ws =
-    let r : Wired = run port (run port start history) rest in
+    let r : Wired = run-wired port (run-wired port start history) rest in
     let ms : List Moment = trace port r words in
     let c : Recovered port history rest words items = claim history rest words items he rs ws in
     let al : throughout (r .port) items none-yet ms = c .conditions in
@@ -289,14 +291,14 @@ demanded port claim history rest words items he rs ws =
 pub demand : Demand direct
 demand = demanded direct recovery
 
-pub run-append : (port : Call → Port → Answer) (xs ys : List Call) (s : Wired) → run port s (xs ++ ys) ≡ run port (run port s xs) ys
-unfolding run
+pub run-append : (port : Command → Port → Answer) (xs ys : List Command) (s : Wired) → run-wired port s (xs ++ ys) ≡ run-wired port (run-wired port s xs) ys
+unfolding run-wired
 run-append port [] ys s = refl
-run-append port (c ∷ xs) ys s = run-append port xs ys (step c (port c (s .port)) s)
+run-append port (c ∷ xs) ys s = run-append port xs ys (wired-after c (port c (s .port)) s)
 
-pub one-list : (port : Call → Port → Answer) → OneList port
+pub one-list : (port : Command → Port → Answer) → OneList port
 unfolding OneList
-one-list port history rest words = run-append port history (rest ++ words) start ∙ run-append port rest words (run port start history)
+one-list port history rest words = run-append port history (rest ++ words) start ∙ run-append port rest words (run-wired port start history)
 
 pub hears-the-line : HearsTheLine direct
 unfolding HearsTheLine
@@ -312,7 +314,7 @@ unfolding half-moments halves
 last-halves zero p = refl
 last-halves (suc n) p = last-halves n (half-step p)
 
-last-wait : (n : ℕ) (p : Port) → last-port p (moments-of (lets-pass n) (direct (lets-pass n) p) p) ≡ after (direct (lets-pass n) p)
+last-wait : (n : ℕ) (p : Port) → last-port p (moments-of (Wait n) (direct (Wait n) p) p) ≡ after (direct (Wait n) p)
 unfolding direct called
 last-wait n p =
     by-cond Is (valid p) _ (refuse 8 p)
@@ -323,7 +325,7 @@ last-wait n p =
     (λ e. refl)
   where
     Is : Answer → Type 0
-    Is r = last-port p (moments-of (lets-pass n) r p) ≡ after r
+    Is r = last-port p (moments-of (Wait n) r p) ≡ after r
 
     counts : (b : Bool) → b ≡ true → last-port p (cond b (half-moments n p) (one-moment (λ u. other) (done 0 (halves n p)))) ≡ halves n p
     counts true e = last-halves n p
@@ -338,7 +340,7 @@ abbrev Stays : Answer → Port → Type 0
 Stays (done v q) p = Unit {0}
 Stays (refused n offset q) p = q ≡ p
 
-stays : (c : Call) (p : Port) → Stays (direct c p) p
+stays : (c : Command) (p : Port) → Stays (direct c p) p
 unfolding Refused-stands
 stays c p = go (direct c p) refl
   where
@@ -350,16 +352,16 @@ last-one : (e : ℕ → Event) (r : Answer) (p : Port) → Stays r p → last-po
 last-one e (done v q) p k = refl
 last-one e (refused n offset q) p k = sym k
 
-last-call : (c : Call) (p : Port) → last-port p (moments-of c (direct c p) p) ≡ after (direct c p)
-last-call (lets-pass n) p = last-wait n p
-last-call (reads a) p = last-one (λ v. cond (eqb a 0xff9d) (rdr-read v) other) (direct (reads a) p) p (stays (reads a) p)
-last-call (writes a v) p = last-one (λ u. other) (direct (writes a v) p) p (stays (writes a v) p)
-last-call (sets-line b) p = last-one (λ u. other) (direct (sets-line b) p) p (stays (sets-line b) p)
-last-call (sets-pins c b) p = last-one (λ u. other) (direct (sets-pins c b) p) p (stays (sets-pins c b) p)
-last-call (sets-power b) p = last-one (λ u. other) (direct (sets-power b) p) p (stays (sets-power b) p)
-last-call passes-inside p = last-one (λ u. other) (direct passes-inside p) p (stays passes-inside p)
+last-call : (c : Command) (p : Port) → last-port p (moments-of c (direct c p) p) ≡ after (direct c p)
+last-call (Wait n) p = last-wait n p
+last-call (Read a) p = last-one (λ v. cond (eqb a 0xff9d) (rdr-read v) other) (direct (Read a) p) p (stays (Read a) p)
+last-call (Write a v) p = last-one (λ u. other) (direct (Write a v) p) p (stays (Write a v) p)
+last-call (Line b) p = last-one (λ u. other) (direct (Line b) p) p (stays (Line b) p)
+last-call (Pins c b) p = last-one (λ u. other) (direct (Pins c b) p) p (stays (Pins c b) p)
+last-call (Power b) p = last-one (λ u. other) (direct (Power b) p) p (stays (Power b) p)
+last-call Inside p = last-one (λ u. other) (direct Inside p) p (stays Inside p)
 
-last-moment : (cs : List Call) (p : Port) → last-port p (moments p cs) ≡ port-run p cs
+last-moment : (cs : List Command) (p : Port) → last-port p (moments p cs) ≡ port-run p cs
 unfolding moments port-run
 last-moment [] p = refl
 last-moment (c ∷ cs) p =
@@ -369,5 +371,5 @@ last-moment (c ∷ cs) p =
 pub ends-there : EndsThere direct
 unfolding EndsThere
 ends-there history calls =
-    let s : Wired = run direct start history in
+    let s : Wired = run-wired direct start history in
     ap (last-port (s .port)) (trace-is calls s (grown-run history start grown-start)) ∙ last-moment calls (s .port) ∙ run-is calls s

@@ -7,11 +7,13 @@ use mathlib.Core.List.{List, [], _∷_, _++_}
 use lib.Dec.{eqb}
 use lib.ListN.{replicate, length}
 use Rattle.frame.specs.Frame.{bits, format, one-if, word}
-use Rattle.sci.specs.Calls.{Call, direct, lets-pass, reads, sets-line, sets-power, writes}
-use Rattle.words.specs.Receiver.{rx-clocked}
+use Rattle.command.specs.declared.Command.{Command}
+use Rattle.port.specs.Calls.{direct}
+use Rattle.command.specs.declared.Command.the-variants.{Wait, Read, Line, Power, Write}
+use Rattle.shift.specs.Receiver.{rx-clocked}
 use Rattle.recovery.specs.Line.{mark, signal, spread, stop-cells-begun, stop-cells-passed, tally-after, values, word-of}
 use Rattle.recovery.specs.Outside.{clock-runs}
-use Rattle.recovery.specs.Recovery.{Rest, Wired, completed, levels, run, start, trace, wait-trace}
+use Rattle.recovery.specs.Recovery.{Rest, Wired, completed, levels, run-wired, start, trace, wait-trace}
 use Rattle.recovery.proofs.Compute.{count-halves, all-may, all-stand, are-separated, asked-of, breaks, history-meets, is-prefix, may-read, may-rest, none-by-8, rest-meets, says, stands, was-read, words-meet}
 use Rattle.recovery.proofs.Computes.{computes}
 use native.Mathlib.Omega.{arith}
@@ -39,26 +41,26 @@ unfolding tally-after
 wraps = refl
 
 -- ---- the port: one word of 0x55 on a line that falls after `at` halves; SEMR and SPCR as given, and the level of mark to match
-cell-of : ℕ → List Call
-cell-of semr = cond (eqb semr 8) (lets-pass 8 ∷ lets-pass 8 ∷ []) (replicate 4 (lets-pass 8))
+cell-of : ℕ → List Command
+cell-of semr = cond (eqb semr 8) (Wait 8 ∷ Wait 8 ∷ []) (replicate 4 (Wait 8))
 
-send : ℕ → ℕ → List Bool → List Call
+send : ℕ → ℕ → List Bool → List Command
 send semr spcr [] = []
-send semr spcr (b ∷ bs) = sets-line (cond (eqb spcr 1) (cond b 0 1) (one-if b)) ∷ (cell-of semr ++ send semr spcr bs)
+send semr spcr (b ∷ bs) = Line (cond (eqb spcr 1) (cond b 0 1) (one-if b)) ∷ (cell-of semr ++ send semr spcr bs)
 
-set-up : ℕ → ℕ → ℕ → List Call
-set-up semr spcr at = sets-power 3 ∷ writes 0xff91 spcr ∷ writes 0xffa6 semr ∷ sets-line (cond (eqb spcr 1) 0 1) ∷ writes 0xff9a 0x10 ∷ lets-pass at ∷ []
+set-up : ℕ → ℕ → ℕ → List Command
+set-up semr spcr at = Power 3 ∷ Write 0xff91 spcr ∷ Write 0xffa6 semr ∷ Line (cond (eqb spcr 1) 0 1) ∷ Write 0xff9a 0x10 ∷ Wait at ∷ []
 
-words : ℕ → ℕ → List Call
+words : ℕ → ℕ → List Command
 words semr spcr = send semr spcr (bits 10 (word (format 0 semr) 0x55))
 
 -- the completions within the first k halves of the word, and within k + 1; the halves of the trace; then the port's half count, RDR, SSR and tally
 report : ℕ → ℕ → ℕ → ℕ → List ℕ
-unfolding computes levels completed run wait-trace trace cell-of send set-up words
+unfolding computes levels completed run-wired wait-trace trace cell-of send set-up words
 report semr spcr at k =
-    let s = run direct start (set-up semr spcr at) in
+    let s = run-wired direct start (set-up semr spcr at) in
     let ms = trace direct s (words semr spcr) in
-    let p = run direct s (words semr spcr) .port in
+    let p = run-wired direct s (words semr spcr) .port in
     completed ms k ∷ completed ms (suc k) ∷ length (levels ms) ∷ p .half ∷ p .rdr ∷ p .ssr ∷ p .received ∷ []
 
 -- a cell of 32 halves: the stop sample is half 304 of the word if the word begins after an even half, and 305 after an odd one
@@ -82,47 +84,47 @@ inverted = refl
 
 -- ---- the rest: 383 halves are no rest
 h : Wired
-h = run direct start (set-up 0 0 0)
+h = run-wired direct start (set-up 0 0 0)
 
-short : length (levels (trace direct h (replicate 42 (lets-pass 9) ++ (lets-pass 5 ∷ [])))) ≡ 383
+short : length (levels (trace direct h (replicate 42 (Wait 9) ++ (Wait 5 ∷ [])))) ≡ 383
 unfolding report h
 short = refl
 
-no-rest : Rest direct h (replicate 42 (lets-pass 9) ++ (lets-pass 5 ∷ [])) → ⊥
+no-rest : Rest direct h (replicate 42 (Wait 9) ++ (Wait 5 ∷ [])) → ⊥
 no-rest rs = omega (arith, short, rs .long)
 
 -- and with 256 for 384 the claim would be false. A word of 8 data bits and parity is in the receiver at history's end, its start cell just sampled. After
 -- 256 halves at mark it is there still, with no flag set, and takes the first cells of the next word for its own
-too-early : List Call
-too-early = sets-power 3 ∷ writes 0xff98 0x20 ∷ writes 0xff9a 0x10 ∷ sets-line 0 ∷ lets-pass 17 ∷ sets-line 1 ∷ []
+too-early : List Command
+too-early = Power 3 ∷ Write 0xff98 0x20 ∷ Write 0xff9a 0x10 ∷ Line 0 ∷ Wait 17 ∷ Line 1 ∷ []
 
-with-256 : breaks direct 256 too-early (lets-pass 256 ∷ []) (send 0 0 (bits 4 (word (format 0x20 0) 0x55))) (word-of 0x55 ∷ []) ≡ true
+with-256 : breaks direct 256 too-early (Wait 256 ∷ []) (send 0 0 (bits 4 (word (format 0x20 0) 0x55))) (word-of 0x55 ∷ []) ≡ true
 unfolding report too-early spread signal values stop-cells-begun stop-cells-passed tally-after is-prefix may-rest may-read was-read are-separated all-may count-halves history-meets rest-meets words-meet asked-of says stands all-stand none-by-8 breaks
 with-256 = refl
 
 -- ---- what can be checked from outside (specs/Outside.antt): why it is asked
 -- RDR read in the first stop cell, but before its sample, is read too early: the next word overruns (SSR 0xe4). Read when the cell has passed it is in time (0xc4)
-two-words : List Call → List Call → List Call
+two-words : List Command → List Command → List Command
 two-words inside behind =
-    send 8 0 (bits 9 (word (format 0 8) 0x55)) ++ (sets-line 1 ∷ lets-pass 4 ∷ (inside ++ (lets-pass 12 ∷ (behind ++ send 8 0 (bits 10 (word (format 0 8) 0x23))))))
+    send 8 0 (bits 9 (word (format 0 8) 0x55)) ++ (Line 1 ∷ Wait 4 ∷ (inside ++ (Wait 12 ∷ (behind ++ send 8 0 (bits 10 (word (format 0 8) 0x23))))))
 
-too-early-read : run direct (run direct start (set-up 8 0 100)) (two-words (reads 0xff9d ∷ []) []) .port .ssr ≡ 0xe4
+too-early-read : run-wired direct (run-wired direct start (set-up 8 0 100)) (two-words (Read 0xff9d ∷ []) []) .port .ssr ≡ 0xe4
 unfolding report two-words
 too-early-read = refl
 
-read-in-time : run direct (run direct start (set-up 8 0 100)) (two-words [] (reads 0xff9d ∷ [])) .port .ssr ≡ 0xc4
+read-in-time : run-wired direct (run-wired direct start (set-up 8 0 100)) (two-words [] (Read 0xff9d ∷ [])) .port .ssr ≡ 0xc4
 unfolding report two-words
 read-in-time = refl
 
 -- a clocked word, begun while SMR asked for it, stays in the receiver when SMR goes back to start-stop form with RE set, and goes with RE
-left : List Call
-left = sets-power 3 ∷ writes 0xff98 0x80 ∷ writes 0xff9a 0x10 ∷ lets-pass 4 ∷ writes 0xff98 0 ∷ []
+left : List Command
+left = Power 3 ∷ Write 0xff98 0x80 ∷ Write 0xff9a 0x10 ∷ Wait 4 ∷ Write 0xff98 0 ∷ []
 
-stays-clocked : rx-clocked (run direct start left .port .rx) ≡ true
+stays-clocked : rx-clocked (run-wired direct start left .port .rx) ≡ true
 unfolding report left
 stays-clocked = refl
 
-goes-with-re : rx-clocked (run direct start (left ++ (writes 0xff9a 0 ∷ writes 0xff9a 0x10 ∷ [])) .port .rx) ≡ false
+goes-with-re : rx-clocked (run-wired direct start (left ++ (Write 0xff9a 0 ∷ Write 0xff9a 0x10 ∷ [])) .port .rx) ≡ false
 unfolding report left
 goes-with-re = refl
 

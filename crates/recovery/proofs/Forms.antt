@@ -9,32 +9,34 @@ use lib.Dec.{eqb, leb}
 use lib.Bits.{bitAnd}
 use borrow.Author.Tests.{not-true}
 use Rattle.frame.specs.declared.Format.{Format}
-use Rattle.sci.specs.declared.Port.{Port}
-use Rattle.words.specs.declared.Receiver.{Receiver}
-use Rattle.words.specs.declared.Receiver.the-variants.{Busy, Idle}
-use Rattle.words.specs.declared.Rx.{Rx}
-use Rattle.words.specs.declared.Sampled.{Sampled}
-use Rattle.words.specs.declared.Sampled.the-variants.{Dropped, Onward, Whole}
+use Rattle.port.specs.declared.Port.{Port}
+use Rattle.shift.specs.declared.Receiver.{Receiver}
+use Rattle.shift.specs.declared.Receiver.the-variants.{Busy, Idle}
+use Rattle.shift.specs.declared.Rx.{Rx}
+use Rattle.shift.specs.declared.Sampled.{Sampled}
+use Rattle.shift.specs.declared.Sampled.the-variants.{Dropped, Onward, Whole}
 use Rattle.frame.proofs.Truth.{and-left, and-right}
 use Rattle.frame.specs.Frame.{differ, format, has}
-use Rattle.sci.specs.Baud.{counted, edge-counted, edge-counts, external, format-of, internal}
-use Rattle.sci.specs.Calls.{Answer, Call, after, bit, called, direct, lets-pass, passes-inside, reads, refuse, sets-line, sets-pins, sets-power, writes, run as port-run}
-use Rattle.sci.specs.Clocked.{receive-bit, receive-bit-on, refresh-sync-clock, sync-edge, take-bit, with-clock}
-use Rattle.sci.specs.Fields.{with-input, with-input-clock, with-rx, with-scr, with-semr, with-smr}
-use Rattle.sci.specs.Half.{advance, clocked-edge, half-step, halves, process-basic, sync, uncounted}
-use Rattle.sci.specs.Pins.{external-edge, input-pins, receive-input}
-use Rattle.sci.specs.Power.{fresh, reset, reset-registers, set-power, with-power}
-use Rattle.sci.specs.Receiver.{arm-receive, complete-receive, error-free, input-level}
-use Rattle.sci.specs.Registers.{cleared, connect, handles, load-tail, read, scr-tx, sender-off, sender-on, settled, status-with, status-write, stored, write, write-scr, write-tdr}
-use Rattle.sci.specs.Sender.{try-start}
-use Rattle.sci.specs.Valid.{limit, valid}
-use Rattle.words.specs.Due.{due-now}
-use Rattle.words.specs.Receiver.{armed, bit-taken, clocked-word, last-bit, rx-clocked, rx-due-on, sample}
-use Rattle.words.specs.Sender.{holds}
-use Rattle.words.specs.declared.Due.the-variants.{Never}
+use Rattle.port.specs.Baud.{counted, edge-counted, edge-counts, external, format-of, internal}
+use Rattle.port.specs.Calls.{Answer, after, bit, called, direct, refuse, run as port-run}
+use Rattle.command.specs.declared.Command.{Command}
+use Rattle.command.specs.declared.Command.the-variants.{Wait, Inside, Read, Line, Pins, Power, Write}
+use Rattle.port.specs.Clocked.{receive-bit, receive-bit-on, refresh-sync-clock, sync-edge, take-bit, with-clock}
+use Rattle.port.specs.Fields.{with-input, with-input-clock, with-rx, with-scr, with-semr, with-smr}
+use Rattle.port.specs.Half.{advance, clocked-edge, half-step, halves, process-basic, sync, uncounted}
+use Rattle.port.specs.Pins.{external-edge, input-pins, receive-input}
+use Rattle.port.specs.Power.{fresh, reset, reset-registers, set-power, with-power}
+use Rattle.port.specs.Receiver.{arm-receive, complete-receive, error-free, input-level}
+use Rattle.port.specs.Registers.{cleared, connect, handles, load-tail, read, scr-tx, sender-off, sender-on, after-store, status-with, status-write, stored, write, write-scr, write-tdr}
+use Rattle.port.specs.Sender.{try-start}
+use Rattle.port.specs.Valid.{limit, valid}
+use Rattle.shift.specs.Due.{due-now}
+use Rattle.shift.specs.Receiver.{armed, bit-taken, clocked-word, last-bit, rx-clocked, rx-due-on, sample}
+use Rattle.shift.specs.Sender.{holds}
+use Rattle.shift.specs.declared.Due.the-variants.{Never}
 use Rattle.branches.proofs.Branches.{both-arms, by-cond}
 use Rattle.recovery.specs.Outside.{StartStopSince, keeps-start-stop}
-use Rattle.recovery.specs.Recovery.{Wired, accepted, each, run, start, step}
+use Rattle.recovery.specs.Recovery.{Wired, accepted, each, run-wired, start, wired-after}
 use Rattle.recovery.proofs.Bridge.{run-is}
 use Rattle.recovery.proofs.Corollaries.{run-append}
 use Rattle.recovery.proofs.Halves.{OutcomePlain, sample-plain}
@@ -208,7 +210,7 @@ module _ (Q : Said) (k : Kept Q) where
 
   -- what follows a store
   of-write : (a v : ℕ) (p : Port) → Of p → Of (stored a v p) → Of (write a v p)
-  unfolding write settled connect
+  unfolding write after-store connect
   of-write a v p t g =
       by-cond Of (p .«module» && not (p .«reset_mode»)) _ p
       (λ e. of-refresh (arm-receive q) (of-arm q (of-view q r (view-try-start (load-tail r) ∙ view-load-tail r)
@@ -233,7 +235,7 @@ module _ (Q : Said) (k : Kept Q) where
   abbrev OfAfter : Answer → Type 0
   OfAfter r = Of (after r)
 
-  of-writes : (a v : ℕ) (p : Port) → Of p → (accepted (called (writes a v) p) ≡ true → Of (stored a v p)) → Of (after (called (writes a v) p))
+  of-writes : (a v : ℕ) (p : Port) → Of p → (accepted (called (Write a v) p) ≡ true → Of (stored a v p)) → Of (after (called (Write a v) p))
   unfolding called
   of-writes a v p t =
       both-arms Stores (leb a 65535 && leb v 255) _ _
@@ -242,27 +244,27 @@ module _ (Q : Said) (k : Kept Q) where
       Stores : Answer → Type 0
       Stores r = (accepted r ≡ true → Of (stored a v p)) → OfAfter r
 
-  of-called : (c : Call) (p : Port) → Of p → Q (format 0 0) false Idle → ((a v : ℕ) → c ≡ writes a v → accepted (called c p) ≡ true → Of (stored a v p)) → Of (after (called c p))
+  of-called : (c : Command) (p : Port) → Of p → Q (format 0 0) false Idle → ((a v : ℕ) → c ≡ Write a v → accepted (called c p) ≡ true → Of (stored a v p)) → Of (after (called c p))
   unfolding called
-  of-called (reads a) p t z s = both-arms OfAfter (leb a 65535) _ _ (both-arms OfAfter (handles a) _ _ (of-read a p t) t) t
-  of-called (writes a v) p t z s = of-writes a v p t (s a v refl)
-  of-called (lets-pass n) p t z s =
+  of-called (Read a) p t z s = both-arms OfAfter (leb a 65535) _ _ (both-arms OfAfter (handles a) _ _ (of-read a p t) t) t
+  of-called (Write a v) p t z s = of-writes a v p t (s a v refl)
+  of-called (Wait n) p t z s =
       both-arms OfAfter (leb n 65535) _ _
       (both-arms OfAfter (internal p) _ _ (both-arms OfAfter (leb (p .half + n) limit) _ _ (of-halves n p t) t) (of-uncounted n p t)) t
-  of-called (sets-line b) p t z s = both-arms OfAfter (leb b 1) _ _ (of-line (bit b) p t) t
-  of-called (sets-pins c b) p t z s =
+  of-called (Line b) p t z s = both-arms OfAfter (leb b 1) _ _ (of-line (bit b) p t) t
+  of-called (Pins c b) p t z s =
       both-arms OfAfter (leb c 1 && leb b 1) _ _
       (both-arms OfAfter ((differ (bit b) (p .input) || differ (bit c) (p .«input_clock»)) && (edge-counts (bit c) p && leb limit (p .half))) _ _ t (of-pins (bit c) (bit b) p t)) t
-  of-called (sets-power b) p t z s = both-arms OfAfter (leb b 15) _ _ (of-power (has b 1) (has b 2) (has b 4) (has b 8) p t z) t
-  of-called passes-inside p t z s = t
+  of-called (Power b) p t z s = both-arms OfAfter (leb b 15) _ _ (of-power (has b 1) (has b 2) (has b 4) (has b 8) p t z) t
+  of-called Inside p t z s = t
 
-  of-direct : (c : Call) (p : Port) → Of p → Q (format 0 0) false Idle → ((a v : ℕ) → c ≡ writes a v → accepted (direct c p) ≡ true → Of (stored a v p)) → Of (after (direct c p))
+  of-direct : (c : Command) (p : Port) → Of p → Q (format 0 0) false Idle → ((a v : ℕ) → c ≡ Write a v → accepted (direct c p) ≡ true → Of (stored a v p)) → Of (after (direct c p))
   unfolding direct
   of-direct c p t z =
       by-cond Stores (valid p) (called c p) (refuse 8 p) (λ e. of-called c p t z) (λ e s. t)
     where
       Stores : Answer → Type 0
-      Stores r = ((a v : ℕ) → c ≡ writes a v → accepted r ≡ true → Of (stored a v p)) → OfAfter r
+      Stores r = ((a v : ℕ) → c ≡ Write a v → accepted r ≡ true → Of (stored a v p)) → OfAfter r
 
 -- ---- with RE clear the receiver holds no word
 abbrev EmptyIfOff : Said
@@ -291,7 +293,7 @@ empty-if-off-stored : (a v : ℕ) (p : Port) → Of EmptyIfOff empty-if-off p �
 empty-if-off-stored a v p t =
     of-stored EmptyIfOff empty-if-off a v p t (of-scr EmptyIfOff empty-if-off v p (λ e q. absurd (true≢false (sym e ∙ has-mask v 0xf7 0x10 refl ∙ q))) (λ e. refl)) (λ e. t) t
 
-empty-if-off-run : (cs : List Call) (p : Port) → Of EmptyIfOff empty-if-off p → Of EmptyIfOff empty-if-off (port-run p cs)
+empty-if-off-run : (cs : List Command) (p : Port) → Of EmptyIfOff empty-if-off p → Of EmptyIfOff empty-if-off (port-run p cs)
 unfolding port-run
 empty-if-off-run [] p t = t
 empty-if-off-run (c ∷ cs) p t = empty-if-off-run cs (after (direct c p)) (of-direct EmptyIfOff empty-if-off c p t (λ e. refl) (λ a v e g. empty-if-off-stored a v p t))
@@ -320,23 +322,23 @@ unfolding format
 none-clocked-stored a v p s t =
     of-stored NoneClocked none-clocked a v p t (of-scr NoneClocked none-clocked v p (λ e. t) (t .0, refl)) (λ e. (s e, t .1)) t
 
-none-clocked-call : (c : Call) (p : Port) → keeps-start-stop c (direct c p) → Of NoneClocked none-clocked p → Of NoneClocked none-clocked (after (direct c p))
+none-clocked-call : (c : Command) (p : Port) → keeps-start-stop c (direct c p) → Of NoneClocked none-clocked p → Of NoneClocked none-clocked (after (direct c p))
 unfolding format
 none-clocked-call c p s t =
     of-direct NoneClocked none-clocked c p t (refl, refl)
-    (λ a v e g. none-clocked-stored a v p (subst (λ (x : Call). keeps-start-stop x (direct x p)) e s (subst (λ (x : Call). accepted (direct x p) ≡ true) e g)) t)
+    (λ a v e g. none-clocked-stored a v p (subst (λ (x : Command). keeps-start-stop x (direct x p)) e s (subst (λ (x : Command). accepted (direct x p) ≡ true) e g)) t)
 
-none-clocked-run : (cs : List Call) (s : Wired) → each direct (λ c a q. keeps-start-stop c a) s cs → Of NoneClocked none-clocked (s .port)
-    → Of NoneClocked none-clocked (run direct s cs .port)
-unfolding run
+none-clocked-run : (cs : List Command) (s : Wired) → each direct (λ c a q. keeps-start-stop c a) s cs → Of NoneClocked none-clocked (s .port)
+    → Of NoneClocked none-clocked (run-wired direct s cs .port)
+unfolding run-wired
 none-clocked-run [] s e t = t
-none-clocked-run (c ∷ cs) s e t = none-clocked-run cs (step c (direct c (s .port)) s) (e .1) (none-clocked-call c (s .port) (e .0) t)
+none-clocked-run (c ∷ cs) s e t = none-clocked-run cs (wired-after c (direct c (s .port)) s) (e .1) (none-clocked-call c (s .port) (e .0) t)
 
 -- start-stop form since RE was clear: no clocked word
-pub no-clocked-word : (calls : List Call) → StartStopSince direct calls → rx-clocked (run direct start calls .port .rx) ≡ false
+pub no-clocked-word : (calls : List Command) → StartStopSince direct calls → rx-clocked (run-wired direct start calls .port .rx) ≡ false
 unfolding fresh format
 no-clocked-word calls s =
-    let q : Wired = run direct start (s .before) in
+    let q : Wired = run-wired direct start (s .before) in
     let idle : q .port .rx ≡ Idle = subst (Of EmptyIfOff empty-if-off) (run-is (s .before) start) (empty-if-off-run (s .before) fresh (λ e. refl)) (s .re-clear) in
-    ap (λ (cs : List Call). rx-clocked (run direct start cs .port .rx)) (s .split) ∙ ap (λ (w : Wired). rx-clocked (w .port .rx)) (run-append direct (s .before) (s .since) start)
+    ap (λ (cs : List Command). rx-clocked (run-wired direct start cs .port .rx)) (s .split) ∙ ap (λ (w : Wired). rx-clocked (w .port .rx)) (run-append direct (s .before) (s .since) start)
     ∙ none-clocked-run (s .since) q (s .kept) (s .start-stop, ap rx-clocked idle) .1

@@ -7,21 +7,21 @@ use lib.Dec.{eqb, ltb}
 use lib.Bits.{bitOr}
 use lib.IntN.{ℤ, pos, negsuc}
 use Rattle.frame.specs.declared.Format.{Format}
-use Rattle.words.specs.declared.Due.the-variants.{Never}
-use Rattle.sci.specs.declared.Port.{Port}
-use Rattle.words.specs.declared.Receiver.{Receiver}
-use Rattle.words.specs.declared.Receiver.the-variants.{Busy, Idle}
-use Rattle.words.specs.declared.Rx.{Rx}
-use Rattle.words.specs.declared.Sampled.{Sampled}
-use Rattle.words.specs.declared.Sampled.the-variants.{Dropped, Onward, Whole}
+use Rattle.shift.specs.declared.Due.the-variants.{Never}
+use Rattle.port.specs.declared.Port.{Port}
+use Rattle.shift.specs.declared.Receiver.{Receiver}
+use Rattle.shift.specs.declared.Receiver.the-variants.{Busy, Idle}
+use Rattle.shift.specs.declared.Rx.{Rx}
+use Rattle.shift.specs.declared.Sampled.{Sampled}
+use Rattle.shift.specs.declared.Sampled.the-variants.{Dropped, Onward, Whole}
 use Rattle.frame.specs.Frame.{differ, has}
-use Rattle.sci.specs.Baud.{counted, format-of}
-use Rattle.words.specs.Receiver.{bit-taken, clocked-word, last-bit, rx-clocked, rx-due-on, armed, sample, sample-at, started, stepped, stopped}
-use Rattle.sci.specs.Clocked.{receive-bit, receive-bit-on, refresh-sync-clock, sync-edge, take-bit, with-clock}
-use Rattle.sci.specs.Fields.{with-rx}
-use Rattle.sci.specs.Half.{advance, clocked-edge, half-step, process-basic, sync}
-use Rattle.words.specs.Due.{due-now}
-use Rattle.sci.specs.Receiver.{complete-receive, error-free, input-level}
+use Rattle.port.specs.Baud.{counted, format-of}
+use Rattle.shift.specs.Receiver.{bit-taken, clocked-word, last-bit, rx-clocked, rx-due-on, armed, sample, sample-at, started, stepped, stopped}
+use Rattle.port.specs.Clocked.{receive-bit, receive-bit-on, refresh-sync-clock, sync-edge, take-bit, with-clock}
+use Rattle.port.specs.Fields.{with-rx}
+use Rattle.port.specs.Half.{advance, clocked-edge, half-step, process-basic, sync}
+use Rattle.shift.specs.Due.{due-now}
+use Rattle.port.specs.Receiver.{complete-receive, error-free, input-level}
 use Rattle.branches.proofs.Branches.{by-cond}
 use Rattle.recovery.proofs.Bounds.{Fits, basic-fits, basic-twice, by-clock, by-half, format-sound, no-word, v-complete-rx}
 use Rattle.recovery.proofs.Project.{same-either, view, view-basic, view-complete, view-refresh, view-shift-out, view-tail-step}

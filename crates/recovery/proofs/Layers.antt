@@ -2,27 +2,28 @@
 -- Assumes nothing.
 use mathlib.Core.Path.{_≡_, refl, sym, ap, _∙_, subst}
 use mathlib.Core.List.{List, [], _∷_, _++_}
-use Rattle.sci.specs.declared.Port.{Port}
-use Rattle.sci.specs.Calls.{Call, after, direct, run as port-run}
-use Rattle.sci.specs.Power.{fresh}
+use Rattle.port.specs.declared.Port.{Port}
+use Rattle.command.specs.declared.Command.{Command}
+use Rattle.port.specs.Calls.{after, direct, run as port-run}
+use Rattle.port.specs.Power.{fresh}
 use Rattle.recovery.specs.Corollaries.{Demand, OneList}
 use Rattle.recovery.specs.Layers.{CarriesOver, Layer, calls-made, state-after}
-use Rattle.recovery.specs.Recovery.{Recovers, Wired, run, rest-end, start}
+use Rattle.recovery.specs.Recovery.{Recovers, Wired, run-wired, rest-end, start}
 use Rattle.recovery.proofs.Bridge.{run-is}
 use Rattle.recovery.proofs.Corollaries.{demand, one-list}
 use Rattle.recovery.proofs.Recovery.{recovery}
 
-pub port-run-append : (xs ys : List Call) (p : Port) → port-run p (xs ++ ys) ≡ port-run (port-run p xs) ys
+pub port-run-append : (xs ys : List Command) (p : Port) → port-run p (xs ++ ys) ≡ port-run (port-run p xs) ys
 unfolding port-run
 port-run-append [] ys p = refl
 port-run-append (c ∷ xs) ys p = port-run-append xs ys (after (direct c p))
 
 -- history, rest and words are one list of calls on the fresh port
-port-is : (history rest words : List Call) → port-run fresh (history ++ (rest ++ words)) ≡ run direct (rest-end direct history rest) words .port
+port-is : (history rest words : List Command) → port-run fresh (history ++ (rest ++ words)) ≡ run-wired direct (rest-end direct history rest) words .port
 unfolding OneList
 port-is history rest words = run-is (history ++ (rest ++ words)) start ∙ ap (λ (w : Wired). w .port) (one-list direct history rest words)
 
-module _ {S C : Type 0} (does : C → S → S) (calls : C → S → List Call) (first : S) (holds : S → Port → Type 0) (l : Layer does calls first holds) where
+module _ {S C : Type 0} (does : C → S → S) (calls : C → S → List Command) (first : S) (holds : S → Port → Type 0) (l : Layer does calls first holds) where
   -- the state after any commands holds the port that their calls leave
   pub held-after : (cs : List C) (s : S) (p : Port) → holds s p → holds (state-after does s cs) (port-run p (calls-made does calls s cs))
   unfolding state-after calls-made port-run

@@ -7,26 +7,28 @@ use mathlib.Core.Bool.{Bool, true, false, cond, not, _&&_, _||_}
 use mathlib.Core.List.{List, [], _∷_}
 use lib.Dec.{eqb, leb}
 use lib.Bits.{bitAnd, bitOr}
-use Rattle.sci.specs.declared.Port.{Port}
-use Rattle.words.specs.declared.Receiver.the-variants.{Idle}
+use Rattle.port.specs.declared.Port.{Port}
+use Rattle.shift.specs.declared.Receiver.the-variants.{Idle}
 use Rattle.frame.specs.Frame.{differ, has}
-use Rattle.sci.specs.Baud.{edge-counted, edge-counts, external, format-of, internal}
-use Rattle.sci.specs.Calls.{Answer, Call, after, bit, called, direct, done, lets-pass, passes-inside, reads, refuse, refused, sets-line, sets-pins, sets-power, writes}
-use Rattle.sci.specs.Clocked.{refresh-sync-clock, sync-edge}
-use Rattle.sci.specs.Fields.{with-brr, with-input, with-input-clock, with-ircr, with-rx, with-scr, with-semr, with-smr, with-spcr}
-use Rattle.sci.specs.Half.{half-step, halves, process-basic, uncounted}
-use Rattle.sci.specs.Pins.{external-edge, input-pins, receive-input}
-use Rattle.sci.specs.Power.{fresh, reset, reset-registers, set-power, with-power}
-use Rattle.sci.specs.Receiver.{arm-receive}
-use Rattle.sci.specs.Registers.{cleared, connect, handles, load-tail, read, scr-tx, sender-off, sender-on, settled, status-with, status-write, stored, write, write-scr, write-tdr}
-use Rattle.words.specs.Sender.{holds}
-use Rattle.sci.specs.Sender.{try-start}
-use Rattle.sci.specs.Valid.{limit, valid}
+use Rattle.port.specs.Baud.{edge-counted, edge-counts, external, format-of, internal}
+use Rattle.port.specs.Calls.{Answer, after, bit, called, direct, done, refuse, refused}
+use Rattle.command.specs.declared.Command.{Command}
+use Rattle.command.specs.declared.Command.the-variants.{Wait, Inside, Read, Line, Pins, Power, Write}
+use Rattle.port.specs.Clocked.{refresh-sync-clock, sync-edge}
+use Rattle.port.specs.Fields.{with-brr, with-input, with-input-clock, with-ircr, with-rx, with-scr, with-semr, with-smr, with-spcr}
+use Rattle.port.specs.Half.{half-step, halves, process-basic, uncounted}
+use Rattle.port.specs.Pins.{external-edge, input-pins, receive-input}
+use Rattle.port.specs.Power.{fresh, reset, reset-registers, set-power, with-power}
+use Rattle.port.specs.Receiver.{arm-receive}
+use Rattle.port.specs.Registers.{cleared, connect, handles, load-tail, read, scr-tx, sender-off, sender-on, after-store, status-with, status-write, stored, write, write-scr, write-tdr}
+use Rattle.shift.specs.Sender.{holds}
+use Rattle.port.specs.Sender.{try-start}
+use Rattle.port.specs.Valid.{limit, valid}
 use Rattle.branches.proofs.Branches.{both-arms, by-cond, or-left}
-use Rattle.sci.proofs.ReceiverKeeps.{ReceiverClosed, arm-keeps, basic-keeps, free-receiver, half-keeps, refresh-keeps, sync-edge-keeps}
-use Rattle.sci.proofs.SenderKeeps.{SenderClosed, free-sender, load-tail-keeps, try-keeps}
+use Rattle.port.proofs.ReceiverKeeps.{ReceiverClosed, arm-keeps, basic-keeps, free-receiver, half-keeps, refresh-keeps, sync-edge-keeps}
+use Rattle.port.proofs.SenderKeeps.{SenderClosed, free-sender, load-tail-keeps, try-keeps}
 use Rattle.recovery.specs.Outside.{ClockAsCommanded, power-after, power-commanded}
-use Rattle.recovery.specs.Recovery.{Wired, accepted, line-after, run, start, step}
+use Rattle.recovery.specs.Recovery.{Wired, accepted, line-after, run-wired, start, wired-after}
 
 -- a store, register by register
 pub by-stored : (P : Port → Type 0) (a v : ℕ) (p : Port) → P (with-spcr p (bitOr (bitAnd v 0x13) 0xc0)) → (eqb a 0xff98 ≡ true → P (with-smr p v)) → P (with-brr p v) → P (write-scr v p)
@@ -107,7 +109,7 @@ module _ (l : Outer) where
   level-stored a v p e = by-stored (Level l) a v p e (λ g. e) e (level-scr v p e) (level-tdr v p e) (level-ssr v p e) e e e
 
   level-write : (a v : ℕ) (p : Port) → Level l p → Level l (write a v p)
-  unfolding write settled connect
+  unfolding write after-store connect
   level-write a v p e =
       by-cond (Level l) (p .«module» && not (p .«reset_mode»)) _ p
       (λ g. level-refresh (arm-receive (try-start (load-tail c))) (arm-keeps (Level l) (λ q x k. k) (try-start (load-tail c))
@@ -163,60 +165,60 @@ level-pins c b p =
 
 -- ---- every call
 -- the power bit of the mask m after a call
-abbrev bit-after : ℕ → Call → Answer → Bool → Bool
-bit-after m (sets-power b) a x = cond (accepted a) (has b m) x
-bit-after m (reads y) a x = x
-bit-after m (writes y v) a x = x
-bit-after m (lets-pass n) a x = x
-bit-after m (sets-line b) a x = x
-bit-after m (sets-pins c b) a x = x
-bit-after m passes-inside a x = x
+abbrev bit-after : ℕ → Command → Answer → Bool → Bool
+bit-after m (Power b) a x = cond (accepted a) (has b m) x
+bit-after m (Read y) a x = x
+bit-after m (Write y v) a x = x
+bit-after m (Wait n) a x = x
+bit-after m (Line b) a x = x
+bit-after m (Pins c b) a x = x
+bit-after m Inside a x = x
 
-abbrev outer-after : Call → Answer → Outer → Outer
+abbrev outer-after : Command → Answer → Outer → Outer
 outer-after c a o =
     record { input = line-after c a (o .input); on = bit-after 1 c a (o .on); main = bit-after 2 c a (o .main); sub = bit-after 4 c a (o .sub); resets = bit-after 8 c a (o .resets) }
 
-module _ (c : Call) (p : Port) where
+module _ (c : Command) (p : Port) where
   Is : Answer → Type 0
   Is r = outer (after r) ≡ outer-after c r (outer p)
 
-called-outer : (c : Call) (p : Port) → Is c p (called c p)
+called-outer : (c : Command) (p : Port) → Is c p (called c p)
 unfolding called Is
-called-outer (reads a) p =
-    by-cond (Is (reads a) p) (leb a 65535) _ (refuse 2 p) (λ e. by-cond (Is (reads a) p) (handles a) _ (refuse 1 p) (λ g. level-read (outer p) a p refl) (λ g. refl)) (λ e. refl)
-called-outer (writes a v) p =
-    by-cond (Is (writes a v) p) (leb a 65535 && leb v 255) _ (refuse 2 p)
-    (λ e. by-cond (Is (writes a v) p) (handles a) _ (refuse 1 p)
-    (λ g. by-cond (Is (writes a v) p) (eqb a 0xffa7 && leb 128 v) (refuse 3 p) (done 0 (write a v p)) (λ h. refl) (λ h. level-write (outer p) a v p refl)) (λ g. refl))
+called-outer (Read a) p =
+    by-cond (Is (Read a) p) (leb a 65535) _ (refuse 2 p) (λ e. by-cond (Is (Read a) p) (handles a) _ (refuse 1 p) (λ g. level-read (outer p) a p refl) (λ g. refl)) (λ e. refl)
+called-outer (Write a v) p =
+    by-cond (Is (Write a v) p) (leb a 65535 && leb v 255) _ (refuse 2 p)
+    (λ e. by-cond (Is (Write a v) p) (handles a) _ (refuse 1 p)
+    (λ g. by-cond (Is (Write a v) p) (eqb a 0xffa7 && leb 128 v) (refuse 3 p) (done 0 (write a v p)) (λ h. refl) (λ h. level-write (outer p) a v p refl)) (λ g. refl))
     (λ e. refl)
-called-outer (lets-pass n) p =
-    by-cond (Is (lets-pass n) p) (leb n 65535) _ (refuse 2 p)
-    (λ e. by-cond (Is (lets-pass n) p) (internal p) _ (done 0 (uncounted n p))
-    (λ i. by-cond (Is (lets-pass n) p) (leb (p .half + n) limit) (done 0 (halves n p)) (refuse 4 p) (λ g. level-halves (outer p) n p refl) (λ g. refl))
+called-outer (Wait n) p =
+    by-cond (Is (Wait n) p) (leb n 65535) _ (refuse 2 p)
+    (λ e. by-cond (Is (Wait n) p) (internal p) _ (done 0 (uncounted n p))
+    (λ i. by-cond (Is (Wait n) p) (leb (p .half + n) limit) (done 0 (halves n p)) (refuse 4 p) (λ g. level-halves (outer p) n p refl) (λ g. refl))
     (λ i. level-no-halves (outer p) n p refl))
     (λ e. refl)
-called-outer (sets-line b) p = by-cond (Is (sets-line b) p) (leb b 1) (done 0 (receive-input (bit b) p)) (refuse 2 p) (λ e. level-line (bit b) p) (λ e. refl)
-called-outer (sets-pins c b) p =
-    by-cond (Is (sets-pins c b) p) (leb c 1 && leb b 1) _ (refuse 2 p)
-    (λ e. by-cond (Is (sets-pins c b) p) ((differ (bit b) (p .input) || differ (bit c) (p .«input_clock»)) && (edge-counts (bit c) p && leb limit (p .half))) (refuse 4 p) (done 0 (input-pins (bit c) (bit b) p))
+called-outer (Line b) p = by-cond (Is (Line b) p) (leb b 1) (done 0 (receive-input (bit b) p)) (refuse 2 p) (λ e. level-line (bit b) p) (λ e. refl)
+called-outer (Pins c b) p =
+    by-cond (Is (Pins c b) p) (leb c 1 && leb b 1) _ (refuse 2 p)
+    (λ e. by-cond (Is (Pins c b) p) ((differ (bit b) (p .input) || differ (bit c) (p .«input_clock»)) && (edge-counts (bit c) p && leb limit (p .half))) (refuse 4 p) (done 0 (input-pins (bit c) (bit b) p))
     (λ g. refl) (λ g. level-pins (bit c) (bit b) p))
     (λ e. refl)
-called-outer (sets-power b) p =
-    by-cond (Is (sets-power b) p) (leb b 15) (done 0 (set-power (has b 1) (has b 2) (has b 4) (has b 8) p)) (refuse 2 p)
+called-outer (Power b) p =
+    by-cond (Is (Power b) p) (leb b 15) (done 0 (set-power (has b 1) (has b 2) (has b 4) (has b 8) p)) (refuse 2 p)
     (λ e. level-power (has b 1) (has b 2) (has b 4) (has b 8) p) (λ e. refl)
-called-outer passes-inside p = refl
+called-outer Inside p = refl
 
-refused-outer : (c : Call) (n : ℕ) (p : Port) → Is c p (refuse n p)
+refused-outer : (c : Command) (n : ℕ) (p : Port) → Is c p (refuse n p)
 unfolding Is
-refused-outer (reads a) n p = refl
-refused-outer (writes a v) n p = refl
-refused-outer (lets-pass k) n p = refl
-refused-outer (sets-line b) n p = refl
-refused-outer (sets-pins c b) n p = refl
-refused-outer (sets-power b) n p = refl
-refused-outer passes-inside n p = refl
+refused-outer (Read a) n p = refl
+refused-outer (Write a v) n p = refl
+refused-outer (Wait k) n p = refl
+refused-outer (Line b) n p = refl
+refused-outer (Pins c b) n p = refl
+refused-outer (Power b) n p = refl
+refused-outer Inside n p = refl
 
-direct-outer : (c : Call) (p : Port) → outer (after (direct c p)) ≡ outer-after c (direct c p) (outer p)
+direct-outer : (c : Command) (p : Port) → outer (after (direct c p)) ≡ outer-after c (direct c p) (outer p)
 unfolding direct Is
 direct-outer c p = by-cond (Is c p) (valid p) (called c p) (refuse 8 p) (λ e. called-outer c p) (λ e. refused-outer c 8 p)
 
@@ -228,33 +230,33 @@ pub lined-start : Lined start
 unfolding fresh
 lined-start = refl
 
-pub lined-step : (c : Call) (s : Wired) → Lined s → Lined (step c (direct c (s .port)) s)
-lined-step c s e = ap (λ (o : Outer). o .input) (direct-outer c (s .port)) ∙ ap (line-after c (direct c (s .port))) e
+pub lined-after : (c : Command) (s : Wired) → Lined s → Lined (wired-after c (direct c (s .port)) s)
+lined-after c s e = ap (λ (o : Outer). o .input) (direct-outer c (s .port)) ∙ ap (line-after c (direct c (s .port))) e
 
-pub lined-run : (cs : List Call) (s : Wired) → Lined s → Lined (run direct s cs)
-unfolding run
+pub lined-run : (cs : List Command) (s : Wired) → Lined s → Lined (run-wired direct s cs)
+unfolding run-wired
 lined-run [] s e = e
-lined-run (c ∷ cs) s e = lined-run cs (step c (direct c (s .port)) s) (lined-step c s e)
+lined-run (c ∷ cs) s e = lined-run cs (wired-after c (direct c (s .port)) s) (lined-after c s e)
 
 -- ---- the record of power is what was commanded
 abbrev bits-of : ℕ → Outer → Outer
 bits-of n o = powered o (has n 1) (has n 2) (has n 4) (has n 8)
 
-bit-is : (m n : ℕ) (c : Call) (a : Answer) → bit-after m c a (has n m) ≡ has (power-after c a n) m
-bit-is m n (sets-power b) (done v q) = refl
-bit-is m n (sets-power b) (refused k offset q) = refl
-bit-is m n (reads x) a = refl
-bit-is m n (writes x v) a = refl
-bit-is m n (lets-pass k) a = refl
-bit-is m n (sets-line b) a = refl
-bit-is m n (sets-pins c b) a = refl
-bit-is m n passes-inside a = refl
+bit-is : (m n : ℕ) (c : Command) (a : Answer) → bit-after m c a (has n m) ≡ has (power-after c a n) m
+bit-is m n (Power b) (done v q) = refl
+bit-is m n (Power b) (refused k offset q) = refl
+bit-is m n (Read x) a = refl
+bit-is m n (Write x v) a = refl
+bit-is m n (Wait k) a = refl
+bit-is m n (Line b) a = refl
+bit-is m n (Pins c b) a = refl
+bit-is m n Inside a = refl
 
 -- the power bits of p are those of n
 Commanded : ℕ → Port → Type 0
 Commanded n p = outer p ≡ bits-of n (outer p)
 
-commanded-call : (n : ℕ) (c : Call) (p : Port) → Commanded n p → Commanded (power-after c (direct c p) n) (after (direct c p))
+commanded-call : (n : ℕ) (c : Command) (p : Port) → Commanded n p → Commanded (power-after c (direct c p) n) (after (direct c p))
 unfolding Commanded
 commanded-call n c p e = λ i.
     record {
@@ -265,10 +267,10 @@ commanded-call n c p e = λ i.
       resets = (ap (λ (o : Outer). o .resets) (direct-outer c p) ∙ ap (λ (o : Outer). bit-after 8 c (direct c p) (o .resets)) e ∙ bit-is 8 n c (direct c p)) i;
     }
 
-commanded-run : (cs : List Call) (n : ℕ) (s : Wired) → Commanded n (s .port) → Commanded (power-commanded direct n s cs) (run direct s cs .port)
-unfolding run power-commanded
+commanded-run : (cs : List Command) (n : ℕ) (s : Wired) → Commanded n (s .port) → Commanded (power-commanded direct n s cs) (run-wired direct s cs .port)
+unfolding run-wired power-commanded
 commanded-run [] n s e = e
-commanded-run (c ∷ cs) n s e = commanded-run cs (power-after c (direct c (s .port)) n) (step c (direct c (s .port)) s) (commanded-call n c (s .port) e)
+commanded-run (c ∷ cs) n s e = commanded-run cs (power-after c (direct c (s .port)) n) (wired-after c (direct c (s .port)) s) (commanded-call n c (s .port) e)
 
 commanded-start : Commanded 0 fresh
 unfolding Commanded fresh
@@ -278,5 +280,5 @@ commanded-start = refl
 pub clock-as-commanded : ClockAsCommanded direct
 unfolding ClockAsCommanded Commanded
 clock-as-commanded calls =
-    let p : Port = run direct start calls .port in
+    let p : Port = run-wired direct start calls .port in
     ap (λ (o : Outer). (o .on && (not (o .resets) && (o .main || (o .sub && eqb (bitAnd (p .smr) 3) 1)))) && not (has (p .scr) 2)) (commanded-run calls 0 start commanded-start)

@@ -4,43 +4,45 @@ use mathlib.Core.Path.{_≡_, refl}
 use Prim.Native.Nat.{ℕ, zero, suc}
 use mathlib.Core.Bool.{Bool, false}
 use mathlib.Core.List.{List, [], _∷_, _++_}
-use Rattle.sci.specs.declared.Port.{Port}
+use Rattle.port.specs.declared.Port.{Port}
 use Rattle.frame.specs.Frame.{bits, format, one-if, word}
-use Rattle.sci.specs.Calls.{Answer, Call, lets-pass, reads, sets-line, sets-power, writes, direct}
-use Rattle.recovery.specs.Line.{Item, signal, spread, stop-cells-begun, stop-cells-passed, tally-after, values, word-of}
+use Rattle.port.specs.Calls.{Answer, direct}
+use Rattle.command.specs.declared.Command.{Command}
+use Rattle.command.specs.declared.Command.the-variants.{Wait, Read, Line, Power, Write}
+use Rattle.recovery.specs.Line.{LineItem, signal, spread, stop-cells-begun, stop-cells-passed, tally-after, values, word-of}
 use Rattle.recovery.specs.NearMisses.{NearMisses, counts-none, counts-two, deaf, halves-by, nothing-at-a-half, nothing-untested, rdr-never-varies, repeat, tally-stands, two-completions}
-use Rattle.recovery.specs.Recovery.{Recovers, levels, run, trace, wait-trace}
+use Rattle.recovery.specs.Recovery.{Recovers, levels, run-wired, trace, wait-trace}
 use Rattle.recovery.proofs.Compute.{count-halves, all-may, all-stand, are-separated, asked-of, breaks, history-meets, is-prefix, may-read, may-rest, none-by-8, refuted, rest-meets, says, stands, was-read, words-meet}
 use Rattle.recovery.proofs.Computes.{computes}
 
 -- the cells of a word, 16 halves each, in waits of eight
-send : List Bool → List Call
+send : List Bool → List Command
 send [] = []
-send (b ∷ bs) = sets-line (one-if b) ∷ (lets-pass 8 ∷ lets-pass 8 ∷ send bs)
+send (b ∷ bs) = Line (one-if b) ∷ (Wait 8 ∷ Wait 8 ∷ send bs)
 
 -- n halves one by one, RDR read after each
-by-halves : ℕ → List Call
+by-halves : ℕ → List Command
 by-halves zero = []
-by-halves (suc n) = lets-pass 1 ∷ reads 0xff9d ∷ by-halves n
+by-halves (suc n) = Wait 1 ∷ Read 0xff9d ∷ by-halves n
 
 -- module and main clock on, five data bits, a cell of 16 halves, RE: so the list is short
-history : List Call
-history = sets-power 3 ∷ writes 0xff98 4 ∷ writes 0xffa6 8 ∷ writes 0xff9a 0x10 ∷ []
+history : List Command
+history = Power 3 ∷ Write 0xff98 4 ∷ Write 0xffa6 8 ∷ Write 0xff9a 0x10 ∷ []
 
 -- 384 halves
-rest : List Call
-rest = lets-pass 384 ∷ []
+rest : List Command
+rest = Wait 384 ∷ []
 
 -- the word of 0x15, RDR read after each half of its stop cell
-words : List Call
-words = send (bits 6 (word (format 4 8) 0x15)) ++ (sets-line 1 ∷ by-halves 16)
+words : List Command
+words = send (bits 6 (word (format 4 8) 0x15)) ++ (Line 1 ∷ by-halves 16)
 
-items : List Item
+items : List LineItem
 items = word-of 0x15 ∷ []
 
 -- the test on this list, with all that it takes to compute it
-computed : (Call → Port → Answer) → Bool
-unfolding computes spread signal values stop-cells-begun stop-cells-passed tally-after levels run wait-trace trace is-prefix may-rest may-read was-read are-separated all-may count-halves history-meets rest-meets words-meet asked-of says stands all-stand none-by-8 breaks repeat halves-by deaf rdr-never-varies tally-stands send by-halves history rest words items
+computed : (Command → Port → Answer) → Bool
+unfolding computes spread signal values stop-cells-begun stop-cells-passed tally-after levels run-wired wait-trace trace is-prefix may-rest may-read was-read are-separated all-may count-halves history-meets rest-meets words-meet asked-of says stands all-stand none-by-8 breaks repeat halves-by deaf rdr-never-varies tally-stands send by-halves history rest words items
 computed port = breaks port 384 history rest words items
 
 -- of the real port the list refutes nothing

@@ -9,15 +9,16 @@ use lib.Dec.{leb, ltb}
 use lib.ListN.{length}
 use borrow.Author.Tests.{leb-false, leb-true, ltb-true, lt-ltb}
 use Rattle.frame.specs.declared.Format.{Format}
-use Rattle.sci.specs.declared.Port.{Port}
+use Rattle.port.specs.declared.Port.{Port}
 use Rattle.frame.specs.Frame.{one-if, stop}
-use Rattle.sci.specs.Baud.{format-of}
-use Rattle.sci.specs.Calls.{Call, direct}
-use Rattle.words.specs.Receiver.{rx-clocked}
+use Rattle.port.specs.Baud.{format-of}
+use Rattle.command.specs.declared.Command.{Command}
+use Rattle.port.specs.Calls.{direct}
+use Rattle.shift.specs.Receiver.{rx-clocked}
 use Rattle.recovery.specs.Corollaries.{Demand, halves-in}
-use Rattle.recovery.specs.Line.{Count, Event, Item, count-after, half-passes, mark, none-yet, other, rdr-read, span, stop-cells-begun, stop-cells-passed, word-of}
+use Rattle.recovery.specs.Line.{Count, Event, LineItem, count-after, half-passes, mark, none-yet, other, rdr-read, span, stop-cells-begun, stop-cells-passed, word-of}
 use Rattle.recovery.specs.Outside.{OutsideIsEnough, ReadAfter, ReadBetween, RecoversOutside, RestOutside, WordsOutside}
-use Rattle.recovery.specs.Recovery.{HistoryEnd, Holds, Moment, Recovers, Rest, Wired, Words, level-of, levels, read-before, rest-end, run, separated, start, throughout, trace}
+use Rattle.recovery.specs.Recovery.{HistoryEnd, Holds, Moment, Recovers, Rest, Wired, Words, level-of, levels, read-before, rest-end, run-wired, separated, start, throughout, trace}
 use Rattle.recovery.proofs.Bridge.{Grown, grown-run, trace-is}
 use Rattle.recovery.proofs.Corollaries.{demand, run-append}
 use Rattle.recovery.proofs.Forms.{no-clocked-word}
@@ -70,22 +71,22 @@ stays-read (m ∷ ms) c u e = go (m .event) (stays-read ms (count-after c (m .ev
     go other k q = k u q
 
 -- ---- what holds of some moments
-at-moment : (first : Port) (items : List Item) (xs ys : List Moment) (m : Moment) (c : Count) → throughout first items c (xs ++ (m ∷ ys))
+at-moment : (first : Port) (items : List LineItem) (xs ys : List Moment) (m : Moment) (c : Count) → throughout first items c (xs ++ (m ∷ ys))
     → Holds first items (count-after (counts c xs) (m .event)) m
 at-moment first items [] ys m c t = t .0
 at-moment first items (x ∷ xs) ys m c t = at-moment first items xs ys m (count-after c (x .event)) (t .1)
 
-throughout-first-part : (first : Port) (items : List Item) (xs ys : List Moment) (c : Count) → throughout first items c (xs ++ ys) → throughout first items c xs
+throughout-first-part : (first : Port) (items : List LineItem) (xs ys : List Moment) (c : Count) → throughout first items c (xs ++ ys) → throughout first items c xs
 throughout-first-part first items [] ys c t = tt
 throughout-first-part first items (x ∷ xs) ys c t = (t .0, throughout-first-part first items xs ys (count-after c (x .event)) (t .1))
 
-throughout-one-more : (first : Port) (items : List Item) (xs : List Moment) (m : Moment) (c : Count) → throughout first items c xs
+throughout-one-more : (first : Port) (items : List LineItem) (xs : List Moment) (m : Moment) (c : Count) → throughout first items c xs
     → Holds first items (count-after (counts c xs) (m .event)) m → throughout first items c (xs ++ (m ∷ []))
 throughout-one-more first items [] m c t h = (h, tt)
 throughout-one-more first items (x ∷ xs) m c t h = (t .0, throughout-one-more first items xs m (count-after c (x .event)) (t .1) h)
 
 -- ---- first stop cells begun only grow
-begun-grows : (f : Format) (is : List Item) (j k : ℕ) → j ≤ k → stop-cells-begun f is j ≤ stop-cells-begun f is k
+begun-grows : (f : Format) (is : List LineItem) (j k : ℕ) → j ≤ k → stop-cells-begun f is j ≤ stop-cells-begun f is k
 unfolding stop-cells-begun
 begun-grows f [] j k h = omega arith
 begun-grows f (mark n ∷ is) j k h = begun-grows f is (j - n) (k - n) (omega arith)
@@ -128,7 +129,7 @@ read-stands-first (b ∷ before) later (x ∷ past) ms r h e n y l =
     go other q = q
 
 -- ---- a completion finds RDR read
-module _ (first : Port) (items : List Item) (all : List Moment) (rd : ReadBetween (format-of first) items all) where
+module _ (first : Port) (items : List LineItem) (all : List Moment) (rd : ReadBetween (format-of first) items all) where
   -- the half h after `past` completes the word whose first stop cell it is in
   module _ (past ms : List Moment) (h : Moment) (e : all ≡ past ++ (h ∷ ms)) (y : is-half (h .event) ≡ true) (t : throughout first items none-yet past)
       (most : suc (counts none-yet past .completions) ≤ stop-cells-begun (format-of first) items (suc (counts none-yet past .halves))) where
@@ -224,11 +225,11 @@ module _ (first : Port) (items : List Item) (all : List Moment) (rd : ReadBetwee
         (read-at past ms m e, subst (λ (k : Count). separated k ms) (counts-append past (m ∷ []) none-yet) (separates (past ++ (m ∷ [])) ms (e ∙ sym (append-assoc past (m ∷ []) ms))))
 
 -- ---- of the real port
-words-outside : (history rest words : List Call) (items : List Item) → HistoryEnd (run direct start history) → Rest direct (run direct start history) rest
+words-outside : (history rest words : List Command) (items : List LineItem) → HistoryEnd (run-wired direct start history) → Rest direct (run-wired direct start history) rest
     → WordsOutside direct (rest-end direct history rest) words items → Words direct (rest-end direct history rest) words items
 words-outside history rest words items he rs ws =
-    let h : Wired = run direct start history in
-    let r : Wired = run direct h rest in
+    let h : Wired = run-wired direct start history in
+    let r : Wired = run-wired direct h rest in
     let gh : Grown h = grown-run history start grown-start in
     let all : List Moment = moments (r .port) words in
     let same : trace direct r words ≡ all = trace-is words r (grown-run rest h gh) in
@@ -238,7 +239,7 @@ words-outside history rest words items he rs ws =
     (record { past = []; split = refl; count = refl; held = tt }) in
     record { calls = ws .calls; line = ws .line; reads = subst (separated none-yet) (sym same) (separates (r .port) items all rd t [] all refl) }
 
-rest-outside : (history rest : List Call) → RestOutside direct history rest → Rest direct (run direct start history) rest
+rest-outside : (history rest : List Command) → RestOutside direct history rest → Rest direct (run-wired direct start history) rest
 rest-outside history rest rs =
     record {
       line = rs .line;
@@ -251,11 +252,11 @@ rest-outside history rest rs =
 pub outside-is-enough : OutsideIsEnough direct
 unfolding OutsideIsEnough
 outside-is-enough history rest words items he rs ws =
-    let r : Rest direct (run direct start history) rest = rest-outside history rest rs in
+    let r : Rest direct (run-wired direct start history) rest = rest-outside history rest rs in
     (r, words-outside history rest words items he r ws)
 
 pub recovers-outside : RecoversOutside direct
 unfolding RecoversOutside OutsideIsEnough Recovers Demand
 recovers-outside history rest words items he rs ws =
-    let e : Rest direct (run direct start history) rest × Words direct (rest-end direct history rest) words items = outside-is-enough history rest words items he rs ws in
+    let e : Rest direct (run-wired direct start history) rest × Words direct (rest-end direct history rest) words items = outside-is-enough history rest words items he rs ws in
     (recovery history rest words items he (e .0) (e .1), demand history rest words items he (e .0) (e .1))

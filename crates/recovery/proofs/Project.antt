@@ -5,26 +5,26 @@ use Prim.Native.Nat.{ℕ, suc, _%_, _^_}
 use mathlib.Core.Bool.{Bool, true, false, not, _&&_, cond}
 use lib.Dec.{eqb}
 use lib.Bits.{bitAnd, bitOr, or-zero-r}
-use Rattle.sci.specs.declared.Port.{Port}
-use Rattle.words.specs.declared.Receiver.{Receiver}
-use Rattle.words.specs.declared.Receiver.the-variants.{Busy, Idle}
-use Rattle.words.specs.declared.Rx.{Rx}
-use Rattle.words.specs.declared.Sampled.{Sampled}
-use Rattle.words.specs.declared.Sampled.the-variants.{Dropped, Onward, Whole}
+use Rattle.port.specs.declared.Port.{Port}
+use Rattle.shift.specs.declared.Receiver.{Receiver}
+use Rattle.shift.specs.declared.Receiver.the-variants.{Busy, Idle}
+use Rattle.shift.specs.declared.Rx.{Rx}
+use Rattle.shift.specs.declared.Sampled.{Sampled}
+use Rattle.shift.specs.declared.Sampled.the-variants.{Dropped, Onward, Whole}
 use Rattle.frame.specs.Frame.{has}
-use Rattle.sci.specs.Baud.{format-of, internal, next-fall}
-use Rattle.sci.specs.Clocked.{refresh-sync-clock, shift-out, tail-ends}
-use Rattle.sci.specs.Fields.{with-rdr, with-received, with-rx, with-ssr}
-use Rattle.sci.specs.Half.{process-basic}
-use Rattle.words.specs.Receiver.{armed, sample}
-use Rattle.words.specs.Due.{due-now}
-use Rattle.sci.specs.Receiver.{advance-rx, advance-rx-on, after-sample, arm-receive, arm-receive-on, complete-receive, error-free, input-level}
-use Rattle.sci.specs.Registers.{load-tail}
-use Rattle.sci.specs.Sender.{advance-tx, try-start}
+use Rattle.port.specs.Baud.{format-of, internal, next-fall}
+use Rattle.port.specs.Clocked.{refresh-sync-clock, shift-out, tail-ends}
+use Rattle.port.specs.Fields.{with-rdr, with-received, with-rx, with-ssr}
+use Rattle.port.specs.Half.{process-basic}
+use Rattle.shift.specs.Receiver.{armed, sample}
+use Rattle.shift.specs.Due.{due-now}
+use Rattle.port.specs.Receiver.{advance-rx, advance-rx-on, after-sample, arm-receive, arm-receive-on, complete-receive, error-free, input-level}
+use Rattle.port.specs.Registers.{load-tail}
+use Rattle.port.specs.Sender.{advance-tx, try-start}
 use Rattle.branches.proofs.Branches.{by-cond}
-use Rattle.laws.proofs.Masks.{and-and, and-or}
-use Rattle.sci.proofs.ReceiverKeeps.{refresh-keeps}
-use Rattle.sci.proofs.SenderKeeps.{SenderClosed, StartClosed, advance-tx-keeps, load-tail-keeps, shift-keeps, tail-keeps, try-keeps}
+use Rattle.port_laws.proofs.Masks.{and-and, and-or}
+use Rattle.port.proofs.ReceiverKeeps.{refresh-keeps}
+use Rattle.port.proofs.SenderKeeps.{SenderClosed, StartClosed, advance-tx-keeps, load-tail-keeps, shift-keeps, tail-keeps, try-keeps}
 use Rattle.recovery.proofs.View.{View, v-advance, v-advance-on, v-arm, v-arm-on, v-basic, v-complete, v-flags, v-outcome, v-word}
 
 abbrev pub view : Port → View

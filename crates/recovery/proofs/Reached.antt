@@ -4,20 +4,22 @@ use mathlib.Core.Path.{_≡_, refl, sym, ap, _∙_, subst}
 use Prim.Native.Nat.{ℕ, zero, suc, _+_}
 use mathlib.Core.Bool.{Bool, not, _&&_, _||_}
 use lib.Dec.{eqb, leb}
-use Rattle.sci.specs.declared.Port.{Port}
+use Rattle.port.specs.declared.Port.{Port}
 use Rattle.frame.specs.Frame.{differ, has}
-use Rattle.sci.specs.Baud.{edge-counted, edge-counts, external, format-of, internal}
-use Rattle.sci.specs.Calls.{Answer, Call, after, bit, called, lets-pass, passes-inside, reads, sets-line, sets-pins, sets-power, writes}
-use Rattle.sci.specs.Clocked.{refresh-sync-clock, sync-edge}
-use Rattle.sci.specs.Fields.{with-input, with-input-clock}
-use Rattle.sci.specs.Half.{half-step, halves, process-basic, uncounted}
-use Rattle.sci.specs.Pins.{external-edge, input-pins, receive-input}
-use Rattle.sci.specs.Power.{fresh, reset, reset-registers, set-power, with-power}
-use Rattle.sci.specs.Receiver.{arm-receive}
-use Rattle.sci.specs.Registers.{cleared, connect, handles, load-tail, read, settled, status-with, status-write, stored, write, write-scr, write-tdr}
-use Rattle.words.specs.Sender.{holds}
-use Rattle.sci.specs.Sender.{try-start}
-use Rattle.sci.specs.Valid.{limit}
+use Rattle.port.specs.Baud.{edge-counted, edge-counts, external, format-of, internal}
+use Rattle.port.specs.Calls.{Answer, after, bit, called}
+use Rattle.command.specs.declared.Command.{Command}
+use Rattle.command.specs.declared.Command.the-variants.{Wait, Inside, Read, Line, Pins, Power, Write}
+use Rattle.port.specs.Clocked.{refresh-sync-clock, sync-edge}
+use Rattle.port.specs.Fields.{with-input, with-input-clock}
+use Rattle.port.specs.Half.{half-step, halves, process-basic, uncounted}
+use Rattle.port.specs.Pins.{external-edge, input-pins, receive-input}
+use Rattle.port.specs.Power.{fresh, reset, reset-registers, set-power, with-power}
+use Rattle.port.specs.Receiver.{arm-receive}
+use Rattle.port.specs.Registers.{cleared, connect, handles, load-tail, read, after-store, status-with, status-write, stored, write, write-scr, write-tdr}
+use Rattle.shift.specs.Sender.{holds}
+use Rattle.port.specs.Sender.{try-start}
+use Rattle.port.specs.Valid.{limit}
 use Rattle.branches.proofs.Branches.{both-arms, by-cond}
 use Rattle.recovery.proofs.Bounds.{Fits, arm-fits, basic-fits, format-sound, no-word}
 use Rattle.recovery.proofs.Halves.{Core, core, core-arm, core-basic, core-half, core-sync-edge, half-fits, sync-edge-fits}
@@ -88,7 +90,7 @@ unfolding connect
 near-connected b p t = by-cond Near (not b && external p) _ _ (λ e. t) (λ e. t)
 
 pub near-write : (a v : ℕ) (p : Port) → Near p → Near (write a v p)
-unfolding write settled
+unfolding write after-store
 near-write a v p t =
     by-cond Near (p .«module» && not (p .«reset_mode»)) _ p (λ e. near-view (refresh-sync-clock (arm-receive q)) (arm-receive q) (view-refresh (arm-receive q)) (near-arm q nq)) (λ e. t)
   where
@@ -143,18 +145,18 @@ pub near-no-halves : (n : ℕ) (p : Port) → Near p → Near (uncounted n p)
 near-no-halves zero p t = t
 near-no-halves (suc n) p t = t
 
-pub near-called : (c : Call) (p : Port) → Near p → Near (after (called c p))
+pub near-called : (c : Command) (p : Port) → Near p → Near (after (called c p))
 unfolding called
-near-called (reads a) p t = both-arms NearAfter (leb a 65535) _ _ (both-arms NearAfter (handles a) _ _ (near-read a p t) t) t
-near-called (writes a v) p t =
+near-called (Read a) p t = both-arms NearAfter (leb a 65535) _ _ (both-arms NearAfter (handles a) _ _ (near-read a p t) t) t
+near-called (Write a v) p t =
     both-arms NearAfter (leb a 65535 && leb v 255) _ _
     (both-arms NearAfter (handles a) _ _ (both-arms NearAfter (eqb a 0xffa7 && leb 128 v) _ _ t (near-write a v p t)) t) t
-near-called (lets-pass n) p t =
+near-called (Wait n) p t =
     both-arms NearAfter (leb n 65535) _ _
     (both-arms NearAfter (internal p) _ _ (both-arms NearAfter (leb (p .half + n) limit) _ _ (near-halves n p t) t) (near-no-halves n p t)) t
-near-called (sets-line b) p t = both-arms NearAfter (leb b 1) _ _ (near-line (bit b) p t) t
-near-called (sets-pins c b) p t =
+near-called (Line b) p t = both-arms NearAfter (leb b 1) _ _ (near-line (bit b) p t) t
+near-called (Pins c b) p t =
     both-arms NearAfter (leb c 1 && leb b 1) _ _
     (both-arms NearAfter ((differ (bit b) (p .input) || differ (bit c) (p .«input_clock»)) && (edge-counts (bit c) p && leb limit (p .half))) _ _ t (near-pins (bit c) (bit b) p t)) t
-near-called (sets-power b) p t = both-arms NearAfter (leb b 15) _ _ (near-power (has b 1) (has b 2) (has b 4) (has b 8) p t) t
-near-called passes-inside p t = t
+near-called (Power b) p t = both-arms NearAfter (leb b 15) _ _ (near-power (has b 1) (has b 2) (has b 4) (has b 8) p t) t
+near-called Inside p t = t

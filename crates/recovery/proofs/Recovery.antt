@@ -6,12 +6,13 @@ use mathlib.Core.Bool.{Bool}
 use mathlib.Core.List.{List, _++_}
 use lib.ListN.{length}
 use Rattle.frame.specs.Frame.{differ, has}
-use Rattle.sci.specs.Baud.{format-of}
-use Rattle.sci.specs.Calls.{Call, direct}
-use Rattle.laws.proofs.Laws.{fresh-passes}
-use Rattle.laws.specs.Laws.{Fresh-passes}
-use Rattle.recovery.specs.Line.{Item, none-yet, prefix, signal}
-use Rattle.recovery.specs.Recovery.{HistoryEnd, Moment, Recovers, Rest, Wired, allowed-in-words, each, levels, run, separated, start, throughout, trace}
+use Rattle.port.specs.Baud.{format-of}
+use Rattle.command.specs.declared.Command.{Command}
+use Rattle.port.specs.Calls.{direct}
+use Rattle.port_laws.proofs.Laws.{fresh-passes}
+use Rattle.port_laws.specs.Laws.{Fresh-passes}
+use Rattle.recovery.specs.Line.{LineItem, none-yet, prefix, signal}
+use Rattle.recovery.specs.Recovery.{HistoryEnd, Moment, Recovers, Rest, Wired, allowed-in-words, each, levels, run-wired, separated, start, throughout, trace}
 use Rattle.recovery.proofs.Bridge.{Grown, grown-run, never-by-8, rest-calls, run-is, trace-is, words-calls}
 use Rattle.recovery.proofs.LineFold.{lined-start}
 use Rattle.recovery.proofs.Once.{once-each}
@@ -23,11 +24,11 @@ pub grown-start : Grown start
 unfolding Fresh-passes
 grown-start = record { lined = lined-start; tested = fresh-passes; near = near-fresh }
 
-pub asked : (h : Wired) (rest words : List Call) (items : List Item) → Grown h → HistoryEnd h → Rest direct h rest
-    → each direct (λ c a s. allowed-in-words c a) (run direct h rest) words → prefix (levels (trace direct (run direct h rest) words)) (signal (format-of (run direct h rest .port)) items)
-    → Asked (h .port) (run direct h rest .port) rest words items
+pub asked : (h : Wired) (rest words : List Command) (items : List LineItem) → Grown h → HistoryEnd h → Rest direct h rest
+    → each direct (λ c a s. allowed-in-words c a) (run-wired direct h rest) words → prefix (levels (trace direct (run-wired direct h rest) words)) (signal (format-of (run-wired direct h rest .port)) items)
+    → Asked (h .port) (run-wired direct h rest .port) rest words items
 asked h rest words items g he rs calls line =
-    let r : Wired = run direct h rest in
+    let r : Wired = run-wired direct h rest in
     record {
       re = he .re;
       start-stop = he .start-stop;
@@ -46,8 +47,8 @@ asked h rest words items g he rs calls line =
 pub recovery : Recovers direct
 unfolding Recovers
 recovery history rest words items he rs ws =
-    let h : Wired = run direct start history in
-    let r : Wired = run direct h rest in
+    let h : Wired = run-wired direct start history in
+    let r : Wired = run-wired direct h rest in
     let gh : Grown h = grown-run history start grown-start in
     let gr : Grown r = grown-run rest h gh in
     let a : Asked (h .port) (r .port) rest words items = asked h rest words items gh he rs (ws .calls) (ws .line) in

@@ -11,17 +11,17 @@ use lib.Bits.{bitOr}
 use lib.IntN.{ℤ, pos, negsuc}
 use borrow.Author.Tests.{ltb-true, eqb-true, eq-eqb, ne-eqb, not-true}
 use Rattle.frame.specs.declared.Format.{Format}
-use Rattle.words.specs.declared.Due.{Due}
-use Rattle.words.specs.declared.Due.the-variants.{At, Never}
-use Rattle.words.specs.declared.Receiver.{Receiver}
-use Rattle.words.specs.declared.Receiver.the-variants.{Busy, Idle}
-use Rattle.words.specs.declared.Rx.{Rx}
-use Rattle.words.specs.declared.Sampled.{Sampled}
-use Rattle.words.specs.declared.Sampled.the-variants.{Dropped, Onward, Whole}
+use Rattle.shift.specs.declared.Due.{Due}
+use Rattle.shift.specs.declared.Due.the-variants.{At, Never}
+use Rattle.shift.specs.declared.Receiver.{Receiver}
+use Rattle.shift.specs.declared.Receiver.the-variants.{Busy, Idle}
+use Rattle.shift.specs.declared.Rx.{Rx}
+use Rattle.shift.specs.declared.Sampled.{Sampled}
+use Rattle.shift.specs.declared.Sampled.the-variants.{Dropped, Onward, Whole}
 use Rattle.frame.proofs.Truth.{and-left, and-right}
 use Rattle.frame.specs.Frame.{differ, has, one-if}
-use Rattle.words.specs.Receiver.{rx-clocked, armed, sample, sample-at, stepped, stopped}
-use Rattle.words.specs.Due.{due-now}
+use Rattle.shift.specs.Receiver.{rx-clocked, armed, sample, sample-at, stepped, stopped}
+use Rattle.shift.specs.Due.{due-now}
 use Rattle.branches.proofs.Branches.{by-cond}
 use Rattle.recovery.proofs.Bounds.{Fits, Sound, by-clock, by-half, near, nearer, no-word, v-complete-rx}
 use Rattle.recovery.proofs.Halves.{Core, core-advance}

@@ -9,31 +9,33 @@ use lib.Dec.{eqb, leb}
 use lib.Bits.{bitAnd}
 use lib.ListN.{length}
 use borrow.Author.Tests.{eqb-true}
-use Rattle.sci.specs.Calls.{run as port-run, Answer, Call, after, bit, called, direct, done, lets-pass, passes-inside, reads, refuse, sets-line, sets-pins, sets-power, writes}
-use Rattle.words.specs.declared.Due.the-variants.{Never}
-use Rattle.sci.specs.declared.Port.{Port}
-use Rattle.words.specs.declared.Receiver.{Receiver}
-use Rattle.words.specs.declared.Receiver.the-variants.{Busy, Idle}
-use Rattle.words.specs.declared.Rx.{Rx}
+use Rattle.port.specs.Calls.{run as port-run, Answer, after, bit, called, direct, done, refuse}
+use Rattle.command.specs.declared.Command.{Command}
+use Rattle.command.specs.declared.Command.the-variants.{Wait, Inside, Read, Line, Pins, Power, Write}
+use Rattle.shift.specs.declared.Due.the-variants.{Never}
+use Rattle.port.specs.declared.Port.{Port}
+use Rattle.shift.specs.declared.Receiver.{Receiver}
+use Rattle.shift.specs.declared.Receiver.the-variants.{Busy, Idle}
+use Rattle.shift.specs.declared.Rx.{Rx}
 use Rattle.frame.proofs.Truth.{and-right}
 use Rattle.frame.proofs.Laws.{clear-of}
 use Rattle.frame.specs.Frame.{differ, format, has}
-use Rattle.sci.specs.Baud.{counted, edge-counted, edge-counts, external, format-of, internal}
-use Rattle.words.specs.Receiver.{bit-taken, clocked-word, last-bit, rx-clocked}
-use Rattle.sci.specs.Clocked.{receive-bit, receive-bit-on, refresh-sync-clock, sync-edge, take-bit, with-clock}
-use Rattle.sci.specs.Fields.{with-input, with-input-clock, with-rx}
-use Rattle.sci.specs.Half.{advance, clocked-edge, half-step, halves, inside, process-basic, sync, uncounted}
-use Rattle.sci.specs.Pins.{external-edge, input-pins, receive-input}
-use Rattle.sci.specs.Power.{set-power}
-use Rattle.words.specs.Due.{due-now}
-use Rattle.sci.specs.Receiver.{arm-receive, complete-receive, error-free, input-level}
-use Rattle.sci.specs.Registers.{cleared, connect, handles, load-tail, peek, read, settled, status-with, status-write, stored, write}
-use Rattle.words.specs.Sender.{holds}
-use Rattle.sci.specs.Sender.{try-start}
-use Rattle.sci.specs.Valid.{limit, valid}
+use Rattle.port.specs.Baud.{counted, edge-counted, edge-counts, external, format-of, internal}
+use Rattle.shift.specs.Receiver.{bit-taken, clocked-word, last-bit, rx-clocked}
+use Rattle.port.specs.Clocked.{receive-bit, receive-bit-on, refresh-sync-clock, sync-edge, take-bit, with-clock}
+use Rattle.port.specs.Fields.{with-input, with-input-clock, with-rx}
+use Rattle.port.specs.Half.{advance, clocked-edge, half-step, halves, inside, process-basic, sync, uncounted}
+use Rattle.port.specs.Pins.{external-edge, input-pins, receive-input}
+use Rattle.port.specs.Power.{set-power}
+use Rattle.shift.specs.Due.{due-now}
+use Rattle.port.specs.Receiver.{arm-receive, complete-receive, error-free, input-level}
+use Rattle.port.specs.Registers.{cleared, connect, handles, load-tail, peek, read, after-store, status-with, status-write, stored, write}
+use Rattle.shift.specs.Sender.{holds}
+use Rattle.port.specs.Sender.{try-start}
+use Rattle.port.specs.Valid.{limit, valid}
 use Rattle.branches.proofs.Branches.{by-cond}
-use Rattle.sci.proofs.CallLaws.{internal-external}
-use Rattle.recovery.specs.Line.{Count, Event, Item, half-passes, none-yet, other, prefix, rdr-read, signal}
+use Rattle.port.proofs.CallLaws.{internal-external}
+use Rattle.recovery.specs.Line.{Count, Event, LineItem, half-passes, none-yet, other, prefix, rdr-read, signal}
 use Rattle.recovery.specs.Recovery.{Holds, Moment, allowed-in-words, level-of, levels, one-moment, throughout}
 use Rattle.recovery.proofs.Bounds.{Fits, advance-quiet, by-clock, format-sound}
 use Rattle.recovery.proofs.Halfwise.{each-call, half-moments, moments, moments-of, none-refused, rests}
@@ -205,12 +207,12 @@ resting-tail was left s r =
         (λ e. r)
 
 resting-write-ssr : (v left : ℕ) (p : Port) → Resting left p → Resting left (write 0xff9c v p)
-unfolding write stored settled
+unfolding write stored after-store
 resting-write-ssr v left p r =
     by-cond (Resting left) (p .«module» && not (p .«reset_mode»)) _ p (λ e. resting-tail (external p) left (status-write v p) (resting-ssr v left p r)) (λ e. r)
 
 resting-write-rdr : (v left : ℕ) (p : Port) → Resting left p → Resting left (write 0xff9d v p)
-unfolding write stored settled
+unfolding write stored after-store
 resting-write-rdr v left p r = by-cond (Resting left) (p .«module» && not (p .«reset_mode»)) _ p (λ e. resting-tail (external p) left p r) (λ e. r)
 
 resting-write : (a v left : ℕ) (p : Port) (b : Bool) → eqb a 0xff9c ≡ b → (b || eqb a 0xff9d) ≡ true → Resting left p → Resting left (write a v p)
@@ -224,13 +226,13 @@ half-count zero p = refl
 half-count (suc n) p = ap suc (half-count n (half-step p))
 
 module _ (left : ℕ) (p : Port) (r : Resting left p) where
-  abbrev After : Call → Answer → Type 0
+  abbrev After : Command → Answer → Type 0
   After x a = rests x a (after a) → Resting (left - length (levels (moments-of x a p))) (after a)
 
   keep : (q : Port) → Resting left q → Resting (left - 0) q
   keep q s = let e : left - 0 ≡ left = omega arith in rw e s
 
-  after-refused : (x : Call) (n : ℕ) → After x (refuse n p)
+  after-refused : (x : Command) (n : ℕ) → After x (refuse n p)
   unfolding levels
   after-refused x n g = rw (none-refused x n 0 p p) (keep p r)
 
@@ -243,36 +245,36 @@ module _ (left : ℕ) (p : Port) (r : Resting left p) where
   after-halves n true e = rw (half-count n p) (resting-halves n left p r)
   after-halves n false e = absurd (false≢true e)
 
-  after-call : (x : Call) → After x (called x p)
+  after-call : (x : Command) → After x (called x p)
   unfolding called levels
-  after-call (reads a) =
-      by-cond (After (reads a)) (leb a 65535) _ (refuse 2 p)
-      (λ e. by-cond (After (reads a)) (handles a) _ (refuse 1 p) (λ g h. after-read a (peek p a) (eqb a 0xff9d)) (λ g. after-refused (reads a) 1)) (λ e. after-refused (reads a) 2)
-  after-call (writes a v) =
-      by-cond (After (writes a v)) (leb a 65535 && leb v 255) _ (refuse 2 p)
-      (λ e. by-cond (After (writes a v)) (handles a) _ (refuse 1 p)
-      (λ g. by-cond (After (writes a v)) (eqb a 0xffa7 && leb 128 v) (refuse 3 p) (done 0 (write a v p)) (λ h. after-refused (writes a v) 3)
+  after-call (Read a) =
+      by-cond (After (Read a)) (leb a 65535) _ (refuse 2 p)
+      (λ e. by-cond (After (Read a)) (handles a) _ (refuse 1 p) (λ g h. after-read a (peek p a) (eqb a 0xff9d)) (λ g. after-refused (Read a) 1)) (λ e. after-refused (Read a) 2)
+  after-call (Write a v) =
+      by-cond (After (Write a v)) (leb a 65535 && leb v 255) _ (refuse 2 p)
+      (λ e. by-cond (After (Write a v)) (handles a) _ (refuse 1 p)
+      (λ g. by-cond (After (Write a v)) (eqb a 0xffa7 && leb 128 v) (refuse 3 p) (done 0 (write a v p)) (λ h. after-refused (Write a v) 3)
       (λ h k. keep (write a v p) (resting-write a v left p (eqb a 0xff9c) refl (k .0 refl) r)))
-      (λ g. after-refused (writes a v) 1))
-      (λ e. after-refused (writes a v) 2)
-  after-call (lets-pass n) =
-      by-cond (After (lets-pass n)) (leb n 65535) _ (refuse 2 p)
-      (λ e. by-cond (After (lets-pass n)) (internal p) _ (done 0 (uncounted n p))
-      (λ i. by-cond (After (lets-pass n)) (leb (p .half + n) limit) (done 0 (halves n p)) (refuse 4 p) (λ g h. after-halves n (internal p) i) (λ g. after-refused (lets-pass n) 4))
+      (λ g. after-refused (Write a v) 1))
+      (λ e. after-refused (Write a v) 2)
+  after-call (Wait n) =
+      by-cond (After (Wait n)) (leb n 65535) _ (refuse 2 p)
+      (λ e. by-cond (After (Wait n)) (internal p) _ (done 0 (uncounted n p))
+      (λ i. by-cond (After (Wait n)) (leb (p .half + n) limit) (done 0 (halves n p)) (refuse 4 p) (λ g h. after-halves n (internal p) i) (λ g. after-refused (Wait n) 4))
       (λ i. absurd (true≢false (sym (r .runs) ∙ i))))
-      (λ e. after-refused (lets-pass n) 2)
-  after-call (sets-line b) =
-      by-cond (After (sets-line b)) (leb b 1) (done 0 (receive-input (bit b) p)) (refuse 2 p) (λ e k. keep (receive-input (bit b) p) (resting-line (bit b) left p r (k .1))) (λ e. after-refused (sets-line b) 2)
-  after-call (sets-pins d b) =
-      by-cond (After (sets-pins d b)) (leb d 1 && leb b 1) _ (refuse 2 p)
-      (λ e. by-cond (After (sets-pins d b)) ((differ (bit b) (p .input) || differ (bit d) (p .«input_clock»)) && (edge-counts (bit d) p && leb limit (p .half))) (refuse 4 p) (done 0 (input-pins (bit d) (bit b) p))
-      (λ g. after-refused (sets-pins d b) 4) (λ g k. keep (input-pins (bit d) (bit b) p) (resting-pins (bit d) (bit b) left p r (k .1))))
-      (λ e. after-refused (sets-pins d b) 2)
-  after-call (sets-power b) =
-      by-cond (After (sets-power b)) (leb b 15) (done 0 (set-power (has b 1) (has b 2) (has b 4) (has b 8) p)) (refuse 2 p) (λ e k. absurd (true≢false (k .0))) (λ e. after-refused (sets-power b) 2)
-  after-call passes-inside = λ k. keep (inside p) (resting-same left p (inside p) refl refl r)
+      (λ e. after-refused (Wait n) 2)
+  after-call (Line b) =
+      by-cond (After (Line b)) (leb b 1) (done 0 (receive-input (bit b) p)) (refuse 2 p) (λ e k. keep (receive-input (bit b) p) (resting-line (bit b) left p r (k .1))) (λ e. after-refused (Line b) 2)
+  after-call (Pins d b) =
+      by-cond (After (Pins d b)) (leb d 1 && leb b 1) _ (refuse 2 p)
+      (λ e. by-cond (After (Pins d b)) ((differ (bit b) (p .input) || differ (bit d) (p .«input_clock»)) && (edge-counts (bit d) p && leb limit (p .half))) (refuse 4 p) (done 0 (input-pins (bit d) (bit b) p))
+      (λ g. after-refused (Pins d b) 4) (λ g k. keep (input-pins (bit d) (bit b) p) (resting-pins (bit d) (bit b) left p r (k .1))))
+      (λ e. after-refused (Pins d b) 2)
+  after-call (Power b) =
+      by-cond (After (Power b)) (leb b 15) (done 0 (set-power (has b 1) (has b 2) (has b 4) (has b 8) p)) (refuse 2 p) (λ e k. absurd (true≢false (k .0))) (λ e. after-refused (Power b) 2)
+  after-call Inside = λ k. keep (inside p) (resting-same left p (inside p) refl refl r)
 
-  after-direct : (x : Call) → After x (direct x p)
+  after-direct : (x : Command) → After x (direct x p)
   unfolding direct
   after-direct x = by-cond (After x) (valid p) (called x p) (refuse 8 p) (λ e. after-call x) (λ e. after-refused x 8)
 
@@ -287,16 +289,16 @@ levels-append (m ∷ xs) ys = go (m .event) (levels-append xs ys)
     go (rdr-read a) q = q
     go other q = q
 
-pub near-direct : (c : Call) (p : Port) → Near p → Near (after (direct c p))
+pub near-direct : (c : Command) (p : Port) → Near p → Near (after (direct c p))
 unfolding direct
 near-direct c p t = by-cond (λ (a : Answer). Near (after a)) (valid p) (called c p) (refuse 8 p) (λ e. near-called c p t) (λ e. t)
 
-pub near-run : (cs : List Call) (p : Port) → Near p → Near (port-run p cs)
+pub near-run : (cs : List Command) (p : Port) → Near p → Near (port-run p cs)
 unfolding port-run
 near-run [] p t = t
 near-run (c ∷ cs) p t = near-run cs (after (direct c p)) (near-direct c p t)
 
-rest-run : (cs : List Call) (left : ℕ) (p : Port) → Resting left p → each-call rests p cs → Resting (left - length (levels (moments p cs))) (port-run p cs)
+rest-run : (cs : List Command) (left : ℕ) (p : Port) → Resting left p → each-call rests p cs → Resting (left - length (levels (moments p cs))) (port-run p cs)
 unfolding port-run moments levels
 rest-run [] left p r q = let e : left - 0 ≡ left = omega arith in rw e r
 rest-run (c ∷ cs) left p r q =
@@ -325,7 +327,7 @@ over : (k : ℕ) → 384 ≤ k → 384 - k ≡ 0
 over k h = omega arith
 
 -- what is asked of the port h at history's end, of the rest, which leads to the port r, and of the words
-pub record Asked (h r : Port) (rest words : List Call) (items : List Item) : Type 0 where
+pub record Asked (h r : Port) (rest words : List Command) (items : List LineItem) : Type 0 where
   pub re : has (h .scr) 0x10 ≡ true
   pub start-stop : has (h .smr) 0x80 ≡ false
   pub clock : internal h ≡ true
@@ -338,7 +340,7 @@ pub record Asked (h r : Port) (rest words : List Call) (items : List Item) : Typ
   pub reading : each-call (λ c a q. allowed-in-words c a) r words
   pub signals : prefix (levels (moments r words)) (signal (format-of r) items)
 
-module _ (h r : Port) (rest words : List Call) (items : List Item) (t : Near h) (a : Asked h r rest words items) where
+module _ (h r : Port) (rest words : List Command) (items : List LineItem) (t : Near h) (a : Asked h r rest words items) where
   begin : Resting 384 h
   unfolding format
   begin = record { plain = a .start-stop; on = a .re; runs = a .clock; line = a .line; calm = fits-calm t }

@@ -14,12 +14,12 @@ use lib.Seq.{take-suc, length-take-le, take-all}
 use lib.IntN.{ℤ, pos, negsuc}
 use borrow.Author.Tests.{lt-ltb, le-ltb, eq-eqb, ne-eqb}
 use Rattle.frame.specs.declared.Format.{Format}
-use Rattle.words.specs.declared.Due.the-variants.{At}
-use Rattle.words.specs.declared.Receiver.the-variants.{Busy, Idle}
-use Rattle.words.specs.declared.Rx.{Rx}
+use Rattle.shift.specs.declared.Due.the-variants.{At}
+use Rattle.shift.specs.declared.Receiver.the-variants.{Busy, Idle}
+use Rattle.shift.specs.declared.Rx.{Rx}
 use Rattle.frame.proofs.Words.{number-lt}
 use Rattle.frame.specs.Frame.{differ, has, number, odd-ones, one-if}
-use Rattle.words.specs.Receiver.{sample-at}
+use Rattle.shift.specs.Receiver.{sample-at}
 use Rattle.recovery.proofs.View.{fall, state, v-advance, v-arm, v-basic, v-count, v-half}
 
 -- the word in the receiver after the start cell and j cells more, with these data bits

@@ -5,14 +5,14 @@ use mathlib.Core.Bool.{Bool, true, not, _&&_, cond}
 use lib.Dec.{eqb}
 use lib.Bits.{bitAnd, bitOr}
 use Rattle.frame.specs.declared.Format.{Format}
-use Rattle.words.specs.declared.Receiver.{Receiver}
-use Rattle.words.specs.declared.Receiver.the-variants.{Busy, Idle}
-use Rattle.words.specs.declared.Rx.{Rx}
-use Rattle.words.specs.declared.Sampled.{Sampled}
-use Rattle.words.specs.declared.Sampled.the-variants.{Dropped, Onward, Whole}
+use Rattle.shift.specs.declared.Receiver.{Receiver}
+use Rattle.shift.specs.declared.Receiver.the-variants.{Busy, Idle}
+use Rattle.shift.specs.declared.Rx.{Rx}
+use Rattle.shift.specs.declared.Sampled.{Sampled}
+use Rattle.shift.specs.declared.Sampled.the-variants.{Dropped, Onward, Whole}
 use Rattle.frame.specs.Frame.{has}
-use Rattle.words.specs.Receiver.{armed, completing-on, sample}
-use Rattle.words.specs.Due.{due-now}
+use Rattle.shift.specs.Receiver.{armed, completing-on, sample}
+use Rattle.shift.specs.Due.{due-now}
 
 pub record View : Type 0 where
   pub fmt : Format

@@ -8,22 +8,24 @@ use lib.Dec.{eqb, leb}
 use lib.Bits.{bitAnd}
 use borrow.Author.Tests.{eqb-true}
 use Rattle.frame.specs.declared.Format.{Format}
-use Rattle.sci.specs.declared.Port.{Port}
+use Rattle.port.specs.declared.Port.{Port}
 use Rattle.frame.specs.Frame.{differ, has}
-use Rattle.sci.specs.Baud.{edge-counted, edge-counts, external, format-of, internal, running}
-use Rattle.sci.specs.Calls.{Answer, Call, after, bit, called, direct, done, lets-pass, passes-inside, reads, refuse, sets-line, sets-pins, sets-power, writes}
-use Rattle.sci.specs.Clocked.{refresh-sync-clock, sync-edge}
-use Rattle.sci.specs.Fields.{with-input, with-input-clock, with-seen}
-use Rattle.sci.specs.Half.{half-step, halves, inside, process-basic, uncounted}
-use Rattle.sci.specs.Pins.{external-edge, input-pins, receive-input}
-use Rattle.sci.specs.Power.{set-power}
-use Rattle.sci.specs.Receiver.{arm-receive, input-level}
-use Rattle.sci.specs.Registers.{handles, peek, read, write}
-use Rattle.sci.specs.Valid.{limit, valid}
+use Rattle.port.specs.Baud.{edge-counted, edge-counts, external, format-of, internal, running}
+use Rattle.port.specs.Calls.{Answer, after, bit, called, direct, done, refuse}
+use Rattle.command.specs.declared.Command.{Command}
+use Rattle.command.specs.declared.Command.the-variants.{Wait, Inside, Read, Line, Pins, Power, Write}
+use Rattle.port.specs.Clocked.{refresh-sync-clock, sync-edge}
+use Rattle.port.specs.Fields.{with-input, with-input-clock, with-seen}
+use Rattle.port.specs.Half.{half-step, halves, inside, process-basic, uncounted}
+use Rattle.port.specs.Pins.{external-edge, input-pins, receive-input}
+use Rattle.port.specs.Power.{set-power}
+use Rattle.port.specs.Receiver.{arm-receive, input-level}
+use Rattle.port.specs.Registers.{handles, peek, read, write}
+use Rattle.port.specs.Valid.{limit, valid}
 use Rattle.branches.proofs.Branches.{by-cond}
-use Rattle.sci.proofs.CallLaws.{internal-external}
-use Rattle.laws.proofs.Masks.{and-and}
-use Rattle.recovery.specs.Line.{Count, Event, Item, count-after, half-passes, other, rdr-read, stop-cells-begun}
+use Rattle.port.proofs.CallLaws.{internal-external}
+use Rattle.port_laws.proofs.Masks.{and-and}
+use Rattle.recovery.specs.Line.{Count, Event, LineItem, count-after, half-passes, other, rdr-read, stop-cells-begun}
 use Rattle.recovery.specs.Recovery.{Holds, Moment, allowed-in-words, answer-is, completes, levels, one-moment, read-before, separated, throughout}
 use Rattle.recovery.proofs.Bounds.{format-sound}
 use Rattle.recovery.proofs.Halfwise.{each-call, half-moments, moments, moments-of, none-refused}
@@ -68,7 +70,7 @@ by-pins P c b p t u e =
     q : Port
     q = with-input-clock (receive-input b p) c
 
-module _ (start : Port) (items : List Item) (plain : format-of start .synchronous ≡ false) where
+module _ (start : Port) (items : List LineItem) (plain : format-of start .synchronous ≡ false) where
   f : Format
   f = format-of start
 
@@ -156,13 +158,13 @@ module _ (start : Port) (items : List Item) (plain : format-of start .synchronou
 
     -- ---- one call, with what follows it
     module _ (p : Port) (c : Count) (ms : List Moment) (t : Near p) where
-      abbrev Along : Call → Answer → Type 0
+      abbrev Along : Command → Answer → Type 0
       Along x r =
           Here c (levels (moments-of x r p ++ ms)) p → Apart c (moments-of x r p ++ ms) → allowed-in-words x r
           → ((c : Count) → Near (after r) → Here c (levels ms) (after r) → Apart c ms → throughout start items c ms)
           → throughout start items c (moments-of x r p ++ ms)
 
-      along-refused : (x : Call) (n : ℕ) → Along x (refuse n p)
+      along-refused : (x : Command) (n : ℕ) → Along x (refuse n p)
       along-refused x n = rw (none-refused x n 0 p p) (λ w s q k. k c t w s)
 
       -- a call that is no moment of the receiver's
@@ -175,7 +177,7 @@ module _ (start : Port) (items : List Item) (plain : format-of start .synchronou
       runs-here : (ls : List Bool) → Here c ls p → internal p ≡ true
       runs-here ls w = where-stands (format-of start) items (start .received) plain long st c ls (view p) w .runs
 
-      along-rdr : Along (reads 0xff9d) (done (peek p 0xff9d) (read 0xff9d p))
+      along-rdr : Along (Read 0xff9d) (done (peek p 0xff9d) (read 0xff9d p))
       unfolding levels peek
       along-rdr w s q k =
           let c′ : Count = count-after c (rdr-read (p .rdr)) in
@@ -185,10 +187,10 @@ module _ (start : Port) (items : List Item) (plain : format-of start .synchronou
           = to-holds c′ (levels ms) (read 0xff9d p) (rdr-read (p .rdr)) w′ (shown (format-of start) items (start .received) plain long st c (levels ms) (view p) w .rdr) in
           (h, k c′ (near-read 0xff9d p t) w′ (known .later c (record { event = rdr-read (p .rdr); port = read 0xff9d p }) ms h s))
 
-      along-reads : (a : ℕ) (b : Bool) → eqb a 0xff9d ≡ b → Along (reads a) (done (peek p a) (read a p))
+      along-read : (a : ℕ) (b : Bool) → eqb a 0xff9d ≡ b → Along (Read a) (done (peek p a) (read a p))
       unfolding levels
-      along-reads a true e = subst (λ (x : ℕ). Along (reads x) (done (peek p x) (read x p))) (sym (eqb-true a 0xff9d e)) along-rdr
-      along-reads a false e =
+      along-read a true e = subst (λ (x : ℕ). Along (Read x) (done (peek p x) (read x p))) (sym (eqb-true a 0xff9d e)) along-rdr
+      along-read a false e =
           rw e (λ w s q k.
           along-other (read a p) (near-read a p t) (subst (Where (format-of start) items (start .received) c (levels ms)) (sym (view-read-other a p e)) w) s k)
 
@@ -199,14 +201,14 @@ module _ (start : Port) (items : List Item) (plain : format-of start .synchronou
       passes n true e w s k = halves-along n p c ms t w s k
       passes n false e w s k = absurd (false≢true e)
 
-      along-lets-pass : (n : ℕ) → Along (lets-pass n) (called (lets-pass n) p)
+      along-wait : (n : ℕ) → Along (Wait n) (called (Wait n) p)
       unfolding called
-      along-lets-pass n =
-          by-cond (Along (lets-pass n)) (leb n 65535) _ (refuse 2 p)
-          (λ e. by-cond (Along (lets-pass n)) (internal p) _ (done 0 (uncounted n p))
-          (λ i. by-cond (Along (lets-pass n)) (leb (p .half + n) limit) (done 0 (halves n p)) (refuse 4 p) (λ g w s q k. passes n (internal p) i w s k) (λ g. along-refused (lets-pass n) 4))
-          (λ i w s q k. absurd (true≢false (sym (runs-here (levels (moments-of (lets-pass n) (done 0 (uncounted n p)) p ++ ms)) w) ∙ i))))
-          (λ e. along-refused (lets-pass n) 2)
+      along-wait n =
+          by-cond (Along (Wait n)) (leb n 65535) _ (refuse 2 p)
+          (λ e. by-cond (Along (Wait n)) (internal p) _ (done 0 (uncounted n p))
+          (λ i. by-cond (Along (Wait n)) (leb (p .half + n) limit) (done 0 (halves n p)) (refuse 4 p) (λ g w s q k. passes n (internal p) i w s k) (λ g. along-refused (Wait n) 4))
+          (λ i w s q k. absurd (true≢false (sym (runs-here (levels (moments-of (Wait n) (done 0 (uncounted n p)) p ++ ms)) w) ∙ i))))
+          (λ e. along-refused (Wait n) 2)
 
       line-here : (b : Bool) → Here c (levels ms) p → Here c (levels ms) (receive-input b p)
       line-here b w =
@@ -218,36 +220,36 @@ module _ (start : Port) (items : List Item) (plain : format-of start .synchronou
           by-pins (Where (format-of start) items (start .received) c (levels ms)) d b p w (line-here b w)
           (where-stands (format-of start) items (start .received) plain long st c (levels ms) (view (receive-input b p)) (line-here b w) .runs)
 
-      along : (x : Call) → Along x (called x p)
+      along : (x : Command) → Along x (called x p)
       unfolding called levels
-      along (reads a) =
-          by-cond (Along (reads a)) (leb a 65535) _ (refuse 2 p)
-          (λ e. by-cond (Along (reads a)) (handles a) _ (refuse 1 p) (λ g. along-reads a (eqb a 0xff9d) refl) (λ g. along-refused (reads a) 1)) (λ e. along-refused (reads a) 2)
-      along (writes a v) =
-          by-cond (Along (writes a v)) (leb a 65535 && leb v 255) _ (refuse 2 p)
-          (λ e. by-cond (Along (writes a v)) (handles a) _ (refuse 1 p)
-          (λ g. by-cond (Along (writes a v)) (eqb a 0xffa7 && leb 128 v) (refuse 3 p) (done 0 (write a v p)) (λ h. along-refused (writes a v) 3) (λ h w s q k. absurd (true≢false q)))
-          (λ g. along-refused (writes a v) 1))
-          (λ e. along-refused (writes a v) 2)
-      along (lets-pass n) = along-lets-pass n
-      along (sets-line b) =
-          by-cond (Along (sets-line b)) (leb b 1) (done 0 (receive-input (bit b) p)) (refuse 2 p)
-          (λ e w s q k. along-other (receive-input (bit b) p) (near-line (bit b) p t) (line-here (bit b) w) s k) (λ e. along-refused (sets-line b) 2)
-      along (sets-pins d b) =
-          by-cond (Along (sets-pins d b)) (leb d 1 && leb b 1) _ (refuse 2 p)
-          (λ e. by-cond (Along (sets-pins d b)) ((differ (bit b) (p .input) || differ (bit d) (p .«input_clock»)) && (edge-counts (bit d) p && leb limit (p .half))) (refuse 4 p) (done 0 (input-pins (bit d) (bit b) p))
-          (λ g. along-refused (sets-pins d b) 4)
+      along (Read a) =
+          by-cond (Along (Read a)) (leb a 65535) _ (refuse 2 p)
+          (λ e. by-cond (Along (Read a)) (handles a) _ (refuse 1 p) (λ g. along-read a (eqb a 0xff9d) refl) (λ g. along-refused (Read a) 1)) (λ e. along-refused (Read a) 2)
+      along (Write a v) =
+          by-cond (Along (Write a v)) (leb a 65535 && leb v 255) _ (refuse 2 p)
+          (λ e. by-cond (Along (Write a v)) (handles a) _ (refuse 1 p)
+          (λ g. by-cond (Along (Write a v)) (eqb a 0xffa7 && leb 128 v) (refuse 3 p) (done 0 (write a v p)) (λ h. along-refused (Write a v) 3) (λ h w s q k. absurd (true≢false q)))
+          (λ g. along-refused (Write a v) 1))
+          (λ e. along-refused (Write a v) 2)
+      along (Wait n) = along-wait n
+      along (Line b) =
+          by-cond (Along (Line b)) (leb b 1) (done 0 (receive-input (bit b) p)) (refuse 2 p)
+          (λ e w s q k. along-other (receive-input (bit b) p) (near-line (bit b) p t) (line-here (bit b) w) s k) (λ e. along-refused (Line b) 2)
+      along (Pins d b) =
+          by-cond (Along (Pins d b)) (leb d 1 && leb b 1) _ (refuse 2 p)
+          (λ e. by-cond (Along (Pins d b)) ((differ (bit b) (p .input) || differ (bit d) (p .«input_clock»)) && (edge-counts (bit d) p && leb limit (p .half))) (refuse 4 p) (done 0 (input-pins (bit d) (bit b) p))
+          (λ g. along-refused (Pins d b) 4)
           (λ g w s q k. along-other (input-pins (bit d) (bit b) p) (near-pins (bit d) (bit b) p t) (pins-here (bit d) (bit b) w) s k))
-          (λ e. along-refused (sets-pins d b) 2)
-      along (sets-power b) =
-          by-cond (Along (sets-power b)) (leb b 15) (done 0 (set-power (has b 1) (has b 2) (has b 4) (has b 8) p)) (refuse 2 p) (λ e w s q k. absurd (true≢false q)) (λ e. along-refused (sets-power b) 2)
-      along passes-inside = λ w s q k. along-other (inside p) t w s k
+          (λ e. along-refused (Pins d b) 2)
+      along (Power b) =
+          by-cond (Along (Power b)) (leb b 15) (done 0 (set-power (has b 1) (has b 2) (has b 4) (has b 8) p)) (refuse 2 p) (λ e w s q k. absurd (true≢false q)) (λ e. along-refused (Power b) 2)
+      along Inside = λ w s q k. along-other (inside p) t w s k
 
-      along-direct : (x : Call) → Along x (direct x p)
+      along-direct : (x : Command) → Along x (direct x p)
       unfolding direct
       along-direct x = by-cond (Along x) (valid p) (called x p) (refuse 8 p) (λ e. along x) (λ e. along-refused x 8)
 
-    pub words-along : (cs : List Call) (p : Port) (c : Count) → Near p → Here c (levels (moments p cs)) p → Apart c (moments p cs) → each-call (λ c a q. allowed-in-words c a) p cs
+    pub words-along : (cs : List Command) (p : Port) (c : Count) → Near p → Here c (levels (moments p cs)) p → Apart c (moments p cs) → each-call (λ c a q. allowed-in-words c a) p cs
         → throughout start items c (moments p cs)
     unfolding moments
     words-along [] p c t w s q = tt

@@ -15,14 +15,14 @@ use lib.Seq.{drop-cons}
 use lib.IntN.{ℤ, pos, negsuc}
 use borrow.Author.Tests.{lt-ltb, lt-leb, eq-eqb, ne-eqb}
 use Rattle.frame.specs.declared.Format.{Format}
-use Rattle.words.specs.declared.Due.the-variants.{At}
-use Rattle.words.specs.declared.Receiver.{Receiver}
-use Rattle.words.specs.declared.Receiver.the-variants.{Busy, Idle}
-use Rattle.words.specs.declared.Rx.{Rx}
+use Rattle.shift.specs.declared.Due.the-variants.{At}
+use Rattle.shift.specs.declared.Receiver.{Receiver}
+use Rattle.shift.specs.declared.Receiver.the-variants.{Busy, Idle}
+use Rattle.shift.specs.declared.Rx.{Rx}
 use Rattle.frame.proofs.Words.{bits-length, cells-length, data-cell, number-bits, parity-at, start-cell, stop-cell, word-bits}
 use Rattle.frame.specs.Frame.{bits, differ, frame, has, number, odd-ones, one-if, stop}
-use Rattle.words.specs.Receiver.{rx-clocked}
-use Rattle.recovery.specs.Line.{Count, Item, count-after, half-passes, mark, none-yet, prefix, rdr-read, signal, span, spread, stop-cells-begun, stop-cells-passed, tally-after, values, word-of}
+use Rattle.shift.specs.Receiver.{rx-clocked}
+use Rattle.recovery.specs.Line.{Count, LineItem, count-after, half-passes, mark, none-yet, prefix, rdr-read, signal, span, spread, stop-cells-begun, stop-cells-passed, tally-after, values, word-of}
 use Rattle.frame.proofs.Laws.{one-if≤}
 use Rattle.recovery.proofs.Signal.{spread-at, spread-length, tail-marks}
 use Rattle.recovery.proofs.Steps.{and-false, arm-mark, checks, falls, false-start, idle, line-arms, quiet, rx-at, rx-wait, starts, stops-at, takes}
@@ -44,7 +44,7 @@ arm-busy : (f : Format) (r : Rx) (h : ℕ) (hi m : Bool) (s d n : ℕ) → v-arm
 unfolding v-arm
 arm-busy f r h hi m s d n = refl
 
-pub passed-zero : (f : Format) → 0 < f .«half_bit» → (is : List Item) → stop-cells-passed f is 0 ≡ 0
+pub passed-zero : (f : Format) → 0 < f .«half_bit» → (is : List LineItem) → stop-cells-passed f is 0 ≡ 0
 unfolding stop-cells-passed
 passed-zero f h [] = refl
 passed-zero f h (mark n ∷ is) = let e : 0 - n ≡ 0 = omega arith in rw e (passed-zero f h is)
@@ -61,9 +61,9 @@ pub at-least : (k n : ℕ) → 0 < k → n ≤ k * n
 at-least zero n h = omega arith
 at-least (suc k) n h = omega arith
 
-module _ (f : Format) (items : List Item) (r0 : ℕ) where
+module _ (f : Format) (items : List LineItem) (r0 : ℕ) where
   -- the counts against the items: `is` are the items from the present one on, k halves into it
-  pub record Ledger (c : Count) (is : List Item) (k : ℕ) : Type 0 where
+  pub record Ledger (c : Count) (is : List LineItem) (k : ℕ) : Type 0 where
     pub more : (x : ℕ) → c .completions + stop-cells-begun f is (k + x) ≤ stop-cells-begun f items (c .halves + x)
     pub less : (x : ℕ) → stop-cells-passed f items (c .halves + x) ≤ c .completions + stop-cells-passed f is (k + x)
     pub names : (y : ℕ) → getD (values f items) (c .completions + y) 0 ≡ getD (values f is) y 0
@@ -76,14 +76,14 @@ module _ (f : Format) (items : List Item) (r0 : ℕ) where
 
   -- where the receiver stands; `ls` are the levels to come
   pub data Where (c : Count) (ls : List Bool) : View → Type 0 where
-    between : (is : List Item) (x : Receiver) (h : ℕ) (hi m : Bool) (s d n : ℕ) → Free f h hi m x → Book c s d n → Ledger c is 0
+    between : (is : List LineItem) (x : Receiver) (h : ℕ) (hi m : Bool) (s d n : ℕ) → Free f h hi m x → Book c s d n → Ledger c is 0
         → prefix ls (signal f is) → Where c ls (state f x h hi m s d n)
-    inside : (v k : ℕ) (is : List Item) (x : Receiver) (h : ℕ) (hi m : Bool) (s d n : ℕ) → Phase f (bits (f .«data») v) h k x → Book c s d n
+    inside : (v k : ℕ) (is : List LineItem) (x : Receiver) (h : ℕ) (hi m : Bool) (s d n : ℕ) → Phase f (bits (f .«data») v) h k x → Book c s d n
         → Ledger c (word-of v ∷ is) k → prefix ls (drop k (spread (f .«half_bit») (frame f (bits (f .«data») v))) ++ signal f is)
         → Where c ls (state f x h hi m s d n)
 
   -- one half more in the same item
-  ledger-step : (c : Count) (m : Bool) (is : List Item) (k : ℕ) → Ledger c is k → Ledger (count-after c (half-passes m false)) is (suc k)
+  ledger-step : (c : Count) (m : Bool) (is : List LineItem) (k : ℕ) → Ledger c is k → Ledger (count-after c (half-passes m false)) is (suc k)
   ledger-step c m is k l =
       record {
         more = λ x. let e : suc k + x ≡ k + suc x = omega arith in let g : suc (c .halves) + x ≡ c .halves + suc x = omega arith in rw (e, g) (l .more (suc x));
@@ -92,7 +92,7 @@ module _ (f : Format) (items : List Item) (r0 : ℕ) where
       }
 
   -- the same place, said by other items
-  ledger-to : (c : Count) (is is′ : List Item) (k k′ : ℕ) → ((x : ℕ) → stop-cells-begun f is (k + x) ≡ stop-cells-begun f is′ (k′ + x))
+  ledger-to : (c : Count) (is is′ : List LineItem) (k k′ : ℕ) → ((x : ℕ) → stop-cells-begun f is (k + x) ≡ stop-cells-begun f is′ (k′ + x))
       → ((x : ℕ) → stop-cells-passed f is (k + x) ≡ stop-cells-passed f is′ (k′ + x)) → values f is ≡ values f is′ → Ledger c is k → Ledger c is′ k′
   ledger-to c is is′ k k′ a b e l =
       record {
@@ -101,20 +101,20 @@ module _ (f : Format) (items : List Item) (r0 : ℕ) where
         names = λ y. rw (← e) (l .names y);
       }
 
-  ledger-zero : (c : Count) (is : List Item) → Ledger c (mark 0 ∷ is) 0 → Ledger c is 0
+  ledger-zero : (c : Count) (is : List LineItem) → Ledger c (mark 0 ∷ is) 0 → Ledger c is 0
   unfolding stop-cells-begun stop-cells-passed values
   ledger-zero c is l =
       ledger-to c (mark 0 ∷ is) is 0 0 (λ x. let e : 0 + x - 0 ≡ 0 + x = omega arith in rw e)
       (λ x. let e : 0 + x - 0 ≡ 0 + x = omega arith in rw e) refl l
 
-  ledger-mark : (c : Count) (is : List Item) (k : ℕ) → Ledger c (mark (suc k) ∷ is) 1 → Ledger c (mark k ∷ is) 0
+  ledger-mark : (c : Count) (is : List LineItem) (k : ℕ) → Ledger c (mark (suc k) ∷ is) 1 → Ledger c (mark k ∷ is) 0
   unfolding stop-cells-begun stop-cells-passed values
   ledger-mark c is k l =
       ledger-to c (mark (suc k) ∷ is) (mark k ∷ is) 1 0 (λ x. let e : 1 + x - suc k ≡ 0 + x - k = omega arith in rw e)
       (λ x. let e : 1 + x - suc k ≡ 0 + x - k = omega arith in rw e) refl l
 
   -- the half that samples the first stop cell
-  ledger-done : (c : Count) (m : Bool) (is : List Item) (v k e : ℕ) → suc k ≡ stop f * f .«half_bit» + e → 0 < e → e ≤ f .«half_bit» → 0 < f .stops
+  ledger-done : (c : Count) (m : Bool) (is : List LineItem) (v k e : ℕ) → suc k ≡ stop f * f .«half_bit» + e → 0 < e → e ≤ f .«half_bit» → 0 < f .stops
       → Ledger c (word-of v ∷ is) k → Ledger (count-after c (half-passes m true)) (mark (f .stops * f .«half_bit» - e) ∷ is) 0
   unfolding stop-cells-begun stop-cells-passed values
   ledger-done c m is v k e g pos-e le st l =
@@ -145,7 +145,7 @@ module _ (f : Format) (items : List Item) (r0 : ℕ) where
       go true = refl
       go false = refl
 
-  book-done : f .synchronous ≡ false → (c : Count) (m : Bool) (s d n v : ℕ) (is : List Item) (k : ℕ) → Ledger c (word-of v ∷ is) k → Book c s d n
+  book-done : f .synchronous ≡ false → (c : Count) (m : Bool) (s d n v : ℕ) (is : List LineItem) (k : ℕ) → Ledger c (word-of v ∷ is) k → Book c s d n
       → Book (count-after c (half-passes m true)) 0x40 (number (bits (f .«data») v)) (suc n % 2 ^ 64)
   unfolding values tally-after
   book-done p c m s d n v is k l b = record { flag = refl; word = λ j h. let e : j ≡ c .completions + 0 = omega arith in rw e (number-bits (f .«data») v ∙ sym (l .names 0)); tally = rw (b .tally) }
@@ -164,7 +164,7 @@ module _ (f : Format) (items : List Item) (r0 : ℕ) where
         → Where (count-after c (half-passes m b)) ls w → Where (count-after c (half-passes m (completing v))) ls (v-half v)
     show-half c ls v w m b e g p = rw (e, g) p
 
-    mark-half : (c : Count) (ls : List Bool) (is : List Item) (k : ℕ) (x : Receiver) (h : ℕ) (hi : Bool) (s d n : ℕ) → Free f h hi true x → Book c s d n
+    mark-half : (c : Count) (ls : List Bool) (is : List LineItem) (k : ℕ) (x : Receiver) (h : ℕ) (hi : Bool) (s d n : ℕ) → Free f h hi true x → Book c s d n
         → Ledger c (mark (suc k) ∷ is) 0 → prefix ls (signal f (mark k ∷ is))
         → Where (count-after c (half-passes true (completing (state f x h hi true s d n)))) ls (v-half (state f x h hi true s d n))
     unfolding completing
@@ -194,7 +194,7 @@ module _ (f : Format) (items : List Item) (r0 : ℕ) where
     cell-level v k j y e h l =
         rw e (spread-at (f .«half_bit») (frame f (bits (f .«data») v)) j y h (rw (cells-length f (bits (f .«data») v) (bits-length (f .«data») v)) l))
 
-    start-half : (c : Count) (ls : List Bool) (is : List Item) (v : ℕ) (x : Receiver) (h : ℕ) (hi : Bool) (s d n : ℕ) → Free f h hi false x → Book c s d n
+    start-half : (c : Count) (ls : List Bool) (is : List LineItem) (v : ℕ) (x : Receiver) (h : ℕ) (hi : Bool) (s d n : ℕ) → Free f h hi false x → Book c s d n
         → Ledger c (word-of v ∷ is) 0 → prefix ls (drop 1 (spread (f .«half_bit») (frame f (bits (f .«data») v))) ++ signal f is)
         → Where (count-after c (half-passes false (completing (state f x h hi false s d n)))) ls (v-half (state f x h hi false s d n))
     unfolding completing
@@ -219,7 +219,7 @@ module _ (f : Format) (items : List Item) (r0 : ℕ) where
         omega arith
 
     -- inside a word
-    module _ (c : Count) (ls : List Bool) (is : List Item) (v k h : ℕ) (hi : Bool) (s d n : ℕ) (b : Book c s d n) (l : Ledger c (word-of v ∷ is) k) where
+    module _ (c : Count) (ls : List Bool) (is : List LineItem) (v k h : ℕ) (hi : Bool) (s d n : ℕ) (b : Book c s d n) (l : Ledger c (word-of v ∷ is) k) where
       abbrev Next : Bool → Receiver → Type 0
       Next m x = Where (count-after c (half-passes m (completing (state f x h hi m s d n)))) ls (v-half (state f x h hi m s d n))
 
@@ -303,7 +303,7 @@ module _ (f : Format) (items : List Item) (r0 : ℕ) where
           (ledger-step c false (word-of v ∷ is) k l) a)
 
     -- a due half in cell suc j: the level, by what the cell holds
-    module _ (c : Count) (ls : List Bool) (is : List Item) (v k h : ℕ) (hi m : Bool) (s d n : ℕ) (b : Book c s d n) (l : Ledger c (word-of v ∷ is) k)
+    module _ (c : Count) (ls : List Bool) (is : List LineItem) (v k h : ℕ) (hi m : Bool) (s d n : ℕ) (b : Book c s d n) (l : Ledger c (word-of v ∷ is) k)
         (a : prefix (m ∷ ls) (drop k (spread (f .«half_bit») (frame f (bits (f .«data») v))) ++ signal f is)) where
       abbrev To : Receiver → Type 0
       To x = Where (count-after c (half-passes m (completing (state f x h hi m s d n)))) ls (v-half (state f x h hi m s d n))
@@ -370,7 +370,7 @@ module _ (f : Format) (items : List Item) (r0 : ℕ) where
               pass-half c ls is v k h hi s d n b l m (pos j) (number (take j (bits (f .«data») v))) t (odd-ones (take j (bits (f .«data») v))) p (ahead le) (taking t e j (omega arith) (omega arith) lo up jle)
 
     -- a half between words: mark goes on, or a word begins
-    between-half : (is : List Item) (c : Count) (ls : List Bool) (x : Receiver) (h : ℕ) (hi m : Bool) (s d n : ℕ) → Free f h hi m x → Book c s d n → Ledger c is 0
+    between-half : (is : List LineItem) (c : Count) (ls : List Bool) (x : Receiver) (h : ℕ) (hi m : Bool) (s d n : ℕ) → Free f h hi m x → Book c s d n → Ledger c is 0
         → prefix (m ∷ ls) (signal f is) → Where (count-after c (half-passes m (completing (state f x h hi m s d n)))) ls (v-half (state f x h hi m s d n))
     unfolding signal
     between-half [] c ls x h hi m s d n fr b l a = absurd a
@@ -426,7 +426,7 @@ module _ (f : Format) (items : List Item) (r0 : ℕ) where
     early bs h k x (starting t e q lt lo up) = omega arith
     early bs h k x (taking t e j q lt lo up le) = let a : j * f .«half_bit» ≤ (f .«data» + one-if (f .parity)) * f .«half_bit» = mul-le-mul-right (f .«half_bit») le in omega arith
 
-    not-passed : (w k : ℕ) (is : List Item) → k < suc (stop f) * f .«half_bit» → stop-cells-passed f (word-of w ∷ is) (k + 0) ≡ 0
+    not-passed : (w k : ℕ) (is : List LineItem) → k < suc (stop f) * f .«half_bit» → stop-cells-passed f (word-of w ∷ is) (k + 0) ≡ 0
     unfolding stop-cells-passed
     not-passed w k is h =
         let b : f .«half_bit» ≤ f .stops * f .«half_bit» = at-least (f .stops) (f .«half_bit») st in

@@ -7,12 +7,13 @@ use mathlib.Core.Bool.{Bool, true, false}
 use mathlib.Core.List.{List, [], _∷_, _++_}
 use lib.ListN.{length}
 use Rattle.frame.specs.declared.Format.{Format}
-use Rattle.sci.specs.declared.Port.{Port}
+use Rattle.port.specs.declared.Port.{Port}
 use Rattle.frame.specs.Frame.{has, one-if, stop}
-use Rattle.sci.specs.Baud.{format-of}
-use Rattle.sci.specs.Calls.{Answer, Call}
-use Rattle.recovery.specs.Line.{Event, Item, half-passes, mark, other, rdr-read, span-of, word-of, words-in}
-use Rattle.recovery.specs.Recovery.{HistoryEnd, Moment, Rest, Words, completed, levels, rest-end, run, start, trace}
+use Rattle.port.specs.Baud.{format-of}
+use Rattle.port.specs.Calls.{Answer}
+use Rattle.command.specs.declared.Command.{Command}
+use Rattle.recovery.specs.Line.{Event, LineItem, half-passes, mark, other, rdr-read, span-of, word-of, words-in}
+use Rattle.recovery.specs.Recovery.{HistoryEnd, Moment, Rest, Words, completed, levels, rest-end, run-wired, start, trace}
 
 -- the halves of these moments; the completions among the halves a + 1 to b; all completions
 abbrev pub halves-in : List Moment → ℕ
@@ -31,18 +32,18 @@ completions-of [] = 0
 completions-of (m ∷ ms) = one-completion (m .event) + completions-of ms
 
 -- word n of the items, from 0: the items before it, its value, the items after it
-pub record NthWord (items : List Item) (n : ℕ) : Type 0 where
-  pub earlier : List Item
+pub record NthWord (items : List LineItem) (n : ℕ) : Type 0 where
+  pub earlier : List LineItem
   pub value : ℕ
-  pub later : List Item
+  pub later : List LineItem
   pub split : items ≡ earlier ++ (word-of value ∷ later)
   pub place : words-in earlier ≡ n
 
 -- its first stop cell is the halves cell-begins + 1 to cell-ends
-abbrev pub cell-begins : Format → List Item → ℕ
+abbrev pub cell-begins : Format → List LineItem → ℕ
 cell-begins f earlier = span-of f earlier + stop f * f .«half_bit»
 
-abbrev pub cell-ends : Format → List Item → ℕ
+abbrev pub cell-ends : Format → List LineItem → ℕ
 cell-ends f earlier = span-of f earlier + suc (stop f) * f .«half_bit»
 
 -- every moment, with the port before it
@@ -65,7 +66,7 @@ tally-step (rdr-read a) t = t
 tally-step other t = t
 
 -- `first` is the port at the words' start, `ms` the moments of the words
-pub record Sentences (first : Port) (items : List Item) (ms : List Moment) : Type 0 where
+pub record Sentences (first : Port) (items : List LineItem) (ms : List Moment) : Type 0 where
   -- every whole word has exactly one completion, inside its first stop cell; and the completions come in order: word n has completion n, from 0
   pub whole :
       (n : ℕ) (w : NthWord items n) → cell-ends (format-of first) (w .earlier) ≤ halves-in ms
@@ -86,7 +87,7 @@ pub record Sentences (first : Port) (items : List Item) (ms : List Moment) : Typ
       → (w : NthWord items (completed ms k)) × (cell-begins (format-of first) (w .earlier) ≤ k) × (k < cell-ends (format-of first) (w .earlier))
   -- so there is none in mark, the trailing mark included
   pub none-in-mark :
-      (xs ys : List Item) (n k : ℕ) → items ≡ xs ++ (mark n ∷ ys) → k ≤ n → span-of (format-of first) xs + k ≤ halves-in ms
+      (xs ys : List LineItem) (n k : ℕ) → items ≡ xs ++ (mark n ∷ ys) → k ≤ n → span-of (format-of first) xs + k ≤ halves-in ms
       → completions-between ms (span-of (format-of first) xs) (span-of (format-of first) xs + k) ≡ 0
   -- RDRF is clear at first, and set exactly from each completion to the first RDR read after it
   pub rdrf-first : has (first .ssr) 0x40 ≡ false
@@ -106,24 +107,24 @@ abbrev pub last-port : Port → List Moment → Port
 last-port p [] = p
 last-port p (m ∷ ms) = last-port (m .port) ms
 
-module _ (direct : Call → Port → Answer) where
+module _ (direct : Command → Port → Answer) where
   -- what demand 3 says of a list
   unfoldable pub Demand : Type 0
   Demand =
-      (history rest words : List Call) (items : List Item)
-      → HistoryEnd (run direct start history) → Rest direct (run direct start history) rest → Words direct (rest-end direct history rest) words items
+      (history rest words : List Command) (items : List LineItem)
+      → HistoryEnd (run-wired direct start history) → Rest direct (run-wired direct start history) rest → Words direct (rest-end direct history rest) words items
       → Sentences (rest-end direct history rest .port) items (trace direct (rest-end direct history rest) words)
 
   -- history, rest and words are one list of calls
   unfoldable pub OneList : Type 0
-  OneList = (history rest words : List Call) → run direct start (history ++ (rest ++ words)) ≡ run direct (rest-end direct history rest) words
+  OneList = (history rest words : List Command) → run-wired direct start (history ++ (rest ++ words)) ≡ run-wired direct (rest-end direct history rest) words
 
   -- a trace ends where the calls do
   unfoldable pub EndsThere : Type 0
   EndsThere =
-      (history calls : List Call)
-      → last-port (run direct start history .port) (trace direct (run direct start history) calls) ≡ run direct (run direct start history) calls .port
+      (history calls : List Command)
+      → last-port (run-wired direct start history .port) (trace direct (run-wired direct start history) calls) ≡ run-wired direct (run-wired direct start history) calls .port
 
   -- the line that the callers set is the line that the port has
   unfoldable pub HearsTheLine : Type 0
-  HearsTheLine = (calls : List Call) → run direct start calls .port .input ≡ run direct start calls .line
+  HearsTheLine = (calls : List Command) → run-wired direct start calls .port .input ≡ run-wired direct start calls .line

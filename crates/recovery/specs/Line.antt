@@ -20,9 +20,9 @@ use Rattle.frame.specs.declared.Format.{Format}
 use Rattle.frame.specs.Frame.{bits, cells, one-if, stop, word}
 
 -- ---- what the line carries (document 01: "mark for any number of halves, and words")
-pub data Item : Type 0 where
-  mark : ℕ → Item
-  word-of : ℕ → Item
+pub data LineItem : Type 0 where
+  mark : ℕ → LineItem
+  word-of : ℕ → LineItem
 
 -- "each cell one cell length of halves"
 unfoldable pub spread : ℕ → List Bool → List Bool
@@ -35,7 +35,7 @@ span f = cells f * f .«half_bit»
 
 -- the level of each half, mark as true: "the frame's word of some value .., low bit first, a one as mark and a zero as the other level".
 -- The value may be any number, and only its data bits count (document 01 has 0 to 255)
-unfoldable pub signal : Format → List Item → List Bool
+unfoldable pub signal : Format → List LineItem → List Bool
 signal f [] = []
 signal f (mark n ∷ is) = replicate n true ++ signal f is
 signal f (word-of v ∷ is) = spread (f .«half_bit») (bits (cells f) (word f v)) ++ signal f is
@@ -47,29 +47,29 @@ prefix (x ∷ xs) [] = ⊥
 prefix (x ∷ xs) (y ∷ ys) = (x ≡ y) × prefix xs ys
 
 -- "the number that the word's data bits make, low bit first": the value modulo 2 to the number of data bits
-unfoldable pub values : Format → List Item → List ℕ
+unfoldable pub values : Format → List LineItem → List ℕ
 values f [] = []
 values f (mark n ∷ is) = values f is
 values f (word-of v ∷ is) = v % 2 ^ f .«data» ∷ values f is
 
 -- the halves that items take, and the words among them
-unfoldable pub span-of : Format → List Item → ℕ
+unfoldable pub span-of : Format → List LineItem → ℕ
 span-of f [] = 0
 span-of f (mark n ∷ is) = n + span-of f is
 span-of f (word-of v ∷ is) = span f + span-of f is
 
-unfoldable pub words-in : List Item → ℕ
+unfoldable pub words-in : List LineItem → ℕ
 words-in [] = 0
 words-in (mark n ∷ is) = words-in is
 words-in (word-of v ∷ is) = suc (words-in is)
 
 -- the words whose first stop cell has begun within the first k halves (at least one half of it has passed), and those whose first stop cell has passed
-unfoldable pub stop-cells-begun : Format → List Item → ℕ → ℕ
+unfoldable pub stop-cells-begun : Format → List LineItem → ℕ → ℕ
 stop-cells-begun f [] k = 0
 stop-cells-begun f (mark n ∷ is) k = stop-cells-begun f is (k - n)
 stop-cells-begun f (word-of v ∷ is) k = one-if (ltb (stop f * f .«half_bit») k) + stop-cells-begun f is (k - span f)
 
-unfoldable pub stop-cells-passed : Format → List Item → ℕ → ℕ
+unfoldable pub stop-cells-passed : Format → List LineItem → ℕ → ℕ
 stop-cells-passed f [] k = 0
 stop-cells-passed f (mark n ∷ is) k = stop-cells-passed f is (k - n)
 stop-cells-passed f (word-of v ∷ is) k = one-if (leb (suc (stop f) * f .«half_bit») k) + stop-cells-passed f is (k - span f)

@@ -2,15 +2,17 @@
 -- Assumes nothing.
 use Prim.Native.Nat.{ℕ, zero, suc}
 use mathlib.Core.Bool.{cond, not, _&&_}
-use Rattle.words.specs.declared.Due.the-variants.{At}
-use Rattle.sci.specs.declared.Port.{Port}
-use Rattle.words.specs.declared.Receiver.{Receiver}
-use Rattle.words.specs.declared.Receiver.the-variants.{Busy, Idle}
+use Rattle.shift.specs.declared.Due.the-variants.{At}
+use Rattle.port.specs.declared.Port.{Port}
+use Rattle.shift.specs.declared.Receiver.{Receiver}
+use Rattle.shift.specs.declared.Receiver.the-variants.{Busy, Idle}
 use Rattle.frame.specs.Frame.{one-if}
-use Rattle.sci.specs.Baud.{counted, internal}
-use Rattle.sci.specs.Calls.{Answer, Call, called, direct, done, lets-pass, passes-inside, reads, refused, sets-line, sets-pins, sets-power, writes}
-use Rattle.sci.specs.Fields.{with-rdr, with-received, with-rx}
-use Rattle.sci.specs.Half.{half-step}
+use Rattle.port.specs.Baud.{counted, internal}
+use Rattle.port.specs.Calls.{Answer, called, direct, done, refused}
+use Rattle.command.specs.declared.Command.{Command}
+use Rattle.command.specs.declared.Command.the-variants.{Wait, Inside, Read, Line, Pins, Power, Write}
+use Rattle.port.specs.Fields.{with-rdr, with-received, with-rx}
+use Rattle.port.specs.Half.{half-step}
 use Rattle.recovery.specs.Recovery.{Recovers, completes}
 
 -- ---- ports with another half
@@ -24,27 +26,27 @@ waits-by step n (done v q) p = done v (cond (internal p) (repeat step n p) q)
 waits-by step n (refused k offset q) p = refused k offset q
 
 -- a port with `step` for what it does at a half
-unfoldable pub halves-by : (Call → Port → Answer) → (Port → Port) → Call → Port → Answer
-halves-by port step (lets-pass n) p = waits-by step n (port (lets-pass n) p) p
-halves-by port step (reads a) p = port (reads a) p
-halves-by port step (writes a v) p = port (writes a v) p
-halves-by port step (sets-line b) p = port (sets-line b) p
-halves-by port step (sets-pins c b) p = port (sets-pins c b) p
-halves-by port step (sets-power b) p = port (sets-power b) p
-halves-by port step passes-inside p = port passes-inside p
+unfoldable pub halves-by : (Command → Port → Answer) → (Port → Port) → Command → Port → Answer
+halves-by port step (Wait n) p = waits-by step n (port (Wait n) p) p
+halves-by port step (Read a) p = port (Read a) p
+halves-by port step (Write a v) p = port (Write a v) p
+halves-by port step (Line b) p = port (Line b) p
+halves-by port step (Pins c b) p = port (Pins c b) p
+halves-by port step (Power b) p = port (Power b) p
+halves-by port step Inside p = port Inside p
 
 -- it does nothing at a half: it only counts. With the field test (test 8), and without
-abbrev pub nothing-at-a-half : Call → Port → Answer
+abbrev pub nothing-at-a-half : Command → Port → Answer
 nothing-at-a-half = halves-by direct counted
 
-abbrev pub nothing-untested : Call → Port → Answer
+abbrev pub nothing-untested : Command → Port → Answer
 nothing-untested = halves-by called counted
 
 -- every half counts two, or none
-abbrev pub counts-two : Call → Port → Answer
+abbrev pub counts-two : Command → Port → Answer
 counts-two = halves-by direct (λ p. half-step (half-step p))
 
-abbrev pub counts-none : Call → Port → Answer
+abbrev pub counts-none : Command → Port → Answer
 counts-none = halves-by direct (λ p. p)
 
 -- two completions for one word: the first, which falls on a half of low phase, leaves the word in the receiver for one half more
@@ -56,7 +58,7 @@ one-half-more (Busy r) h =
 abbrev pub completes-twice : Port → Port
 completes-twice p = cond (completes p && not (p .high)) (with-rx (half-step p) (one-half-more (p .rx) (suc (p .half)))) (half-step p)
 
-abbrev pub two-completions : Call → Port → Answer
+abbrev pub two-completions : Command → Port → Answer
 two-completions = halves-by direct completes-twice
 
 -- ---- ports with another answer
@@ -65,20 +67,20 @@ answers-by f (done v q) = done v (f q)
 answers-by f (refused n offset q) = refused n offset q
 
 -- deaf: kinds 4 and 5 leave the line as it was
-unfoldable pub deaf : Call → Port → Answer
-deaf (sets-line b) p = direct (sets-line (one-if (p .input))) p
-deaf (sets-pins c b) p = direct (sets-pins c (one-if (p .input))) p
-deaf (reads a) p = direct (reads a) p
-deaf (writes a v) p = direct (writes a v) p
-deaf (lets-pass n) p = direct (lets-pass n) p
-deaf (sets-power b) p = direct (sets-power b) p
-deaf passes-inside p = direct passes-inside p
+unfoldable pub deaf : Command → Port → Answer
+deaf (Line b) p = direct (Line (one-if (p .input))) p
+deaf (Pins c b) p = direct (Pins c (one-if (p .input))) p
+deaf (Read a) p = direct (Read a) p
+deaf (Write a v) p = direct (Write a v) p
+deaf (Wait n) p = direct (Wait n) p
+deaf (Power b) p = direct (Power b) p
+deaf Inside p = direct Inside p
 
 -- RDR never varies; the tally of words received stands
-unfoldable pub rdr-never-varies : Call → Port → Answer
+unfoldable pub rdr-never-varies : Command → Port → Answer
 rdr-never-varies c p = answers-by (λ q. with-rdr q (p .rdr)) (direct c p)
 
-unfoldable pub tally-stands : Call → Port → Answer
+unfoldable pub tally-stands : Command → Port → Answer
 tally-stands c p = answers-by (λ q. with-received q (p .received)) (direct c p)
 
 -- ---- the claim is false of each

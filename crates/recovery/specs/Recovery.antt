@@ -14,13 +14,15 @@ use mathlib.Core.List.{List, [], _∷_, _++_}
 use lib.Dec.{eqb}
 use lib.ListN.{length, getD}
 use Rattle.frame.specs.declared.Format.{Format}
-use Rattle.sci.specs.declared.Port.{Port}
+use Rattle.port.specs.declared.Port.{Port}
 use Rattle.frame.specs.Frame.{differ, has, one-if, stop}
-use Rattle.sci.specs.Baud.{format-of, internal}
-use Rattle.sci.specs.Calls.{Answer, Call, after, bit, done, lets-pass, passes-inside, reads, refused, sets-line, sets-pins, sets-power, writes}
-use Rattle.words.specs.Receiver.{rx-clocked, completing-on}
-use Rattle.sci.specs.Power.{fresh}
-use Rattle.recovery.specs.Line.{Count, Event, Item, count-after, half-passes, none-yet, other, prefix, rdr-read, signal, span-of, stop-cells-begun, stop-cells-passed, tally-after, values, word-of, words-in}
+use Rattle.port.specs.Baud.{format-of, internal}
+use Rattle.port.specs.Calls.{Answer, after, bit, done, refused}
+use Rattle.command.specs.declared.Command.{Command}
+use Rattle.command.specs.declared.Command.the-variants.{Wait, Inside, Read, Line, Pins, Power, Write}
+use Rattle.shift.specs.Receiver.{rx-clocked, completing-on}
+use Rattle.port.specs.Power.{fresh}
+use Rattle.recovery.specs.Line.{Count, Event, LineItem, count-after, half-passes, none-yet, other, prefix, rdr-read, signal, span-of, stop-cells-begun, stop-cells-passed, tally-after, values, word-of, words-in}
 
 -- ---- the line
 -- A port, and the level that the callers have put on its receive line. The line is no part of the port: it starts at 1, an accepted call of
@@ -40,18 +42,18 @@ abbrev pub by-8 : Answer → Bool
 by-8 (done v q) = false
 by-8 (refused n offset q) = eqb n 8
 
-abbrev pub line-after : Call → Answer → Bool → Bool
-line-after (sets-line b) a l = cond (accepted a) (bit b) l
-line-after (sets-pins c b) a l = cond (accepted a) (bit b) l
-line-after (reads x) a l = l
-line-after (writes x v) a l = l
-line-after (lets-pass n) a l = l
-line-after (sets-power b) a l = l
-line-after passes-inside a l = l
+abbrev pub line-after : Command → Answer → Bool → Bool
+line-after (Line b) a l = cond (accepted a) (bit b) l
+line-after (Pins c b) a l = cond (accepted a) (bit b) l
+line-after (Read x) a l = l
+line-after (Write x v) a l = l
+line-after (Wait n) a l = l
+line-after (Power b) a l = l
+line-after Inside a l = l
 
 -- "each call gets the state that the one before returned"
-abbrev pub step : Call → Answer → Wired → Wired
-step c a s = record { port = after a; line = line-after c a (s .line) }
+abbrev pub wired-after : Command → Answer → Wired → Wired
+wired-after c a s = record { port = after a; line = line-after c a (s .line) }
 
 -- "Mark is line 1, or line 0 with SPCR bit 0 set"
 abbrev pub line-at-mark : Wired → Bool
@@ -106,36 +108,36 @@ separated c (m ∷ ms) = read-before (m .event) c × separated (count-after c (m
 
 -- ---- what is asked of a call, by its answer: of a refused call nothing ("a refused call .. passes no half and may stand anywhere")
 -- Rest: "no accepted power command", "no register but SSR and RDR written". Stronger than document 01: the clock pin may change
-abbrev pub allowed-in-rest : Call → Answer → Type 0
-allowed-in-rest (writes x v) a = accepted a ≡ true → (eqb x 0xff9c || eqb x 0xff9d) ≡ true
-allowed-in-rest (sets-power b) a = accepted a ≡ false
-allowed-in-rest (reads x) a = Unit {0}
-allowed-in-rest (lets-pass n) a = Unit {0}
-allowed-in-rest (sets-line b) a = Unit {0}
-allowed-in-rest (sets-pins c b) a = Unit {0}
-allowed-in-rest passes-inside a = Unit {0}
+abbrev pub allowed-in-rest : Command → Answer → Type 0
+allowed-in-rest (Write x v) a = accepted a ≡ true → (eqb x 0xff9c || eqb x 0xff9d) ≡ true
+allowed-in-rest (Power b) a = accepted a ≡ false
+allowed-in-rest (Read x) a = Unit {0}
+allowed-in-rest (Wait n) a = Unit {0}
+allowed-in-rest (Line b) a = Unit {0}
+allowed-in-rest (Pins c b) a = Unit {0}
+allowed-in-rest Inside a = Unit {0}
 
 -- Words: "no accepted power command", "no register is written". Stronger than document 01: the clock pin may change; and the line may change at any
 -- time and more than once ("only where a cell or mark begins, once at most" is not asked), since only the levels that halves see count
-abbrev pub allowed-in-words : Call → Answer → Type 0
-allowed-in-words (writes x v) a = accepted a ≡ false
-allowed-in-words (sets-power b) a = accepted a ≡ false
-allowed-in-words (reads x) a = Unit {0}
-allowed-in-words (lets-pass n) a = Unit {0}
-allowed-in-words (sets-line b) a = Unit {0}
-allowed-in-words (sets-pins c b) a = Unit {0}
-allowed-in-words passes-inside a = Unit {0}
+abbrev pub allowed-in-words : Command → Answer → Type 0
+allowed-in-words (Write x v) a = accepted a ≡ false
+allowed-in-words (Power b) a = accepted a ≡ false
+allowed-in-words (Read x) a = Unit {0}
+allowed-in-words (Wait n) a = Unit {0}
+allowed-in-words (Line b) a = Unit {0}
+allowed-in-words (Pins c b) a = Unit {0}
+allowed-in-words Inside a = Unit {0}
 
 -- ---- what is claimed of each moment of the words
 -- an RDR read "after a completion and before the next answers the number that the word's data bits make": after n + 1 completions the value of word n, from 0
--- (`getD vs n 0` is the n-th of vs; there is one, since completions never outnumber the words: Corollaries.antt, `reads`)
-abbrev pub answer-is : Format → List Item → Count → Event → Type 0
+-- (`getD vs n 0` is the n-th of vs; there is one, since completions never outnumber the words: Corollaries.antt, `Read`)
+abbrev pub answer-is : Format → List LineItem → Count → Event → Type 0
 answer-is f items c (half-passes m b) = Unit {0}
 answer-is f items c (rdr-read a) = (n : ℕ) → c .completions ≡ suc n → a ≡ getD (values f items) n 0
 answer-is f items c other = Unit {0}
 
 -- `first` is the port at the words' start; `c` counts from there up to the moment `m`, which it includes
-pub record Holds (first : Port) (items : List Item) (c : Count) (m : Moment) : Type 0 where
+pub record Holds (first : Port) (items : List LineItem) (c : Count) (m : Moment) : Type 0 where
   -- "SSR stays without 0x38"
   pub no-error : has (m .port .ssr) 0x38 ≡ false
   -- "RDRF is set exactly from each completion to the first RDR read after it"
@@ -149,12 +151,12 @@ pub record Holds (first : Port) (items : List Item) (c : Count) (m : Moment) : T
   pub most : c .completions ≤ stop-cells-begun (format-of first) items (c .halves)
   pub answer : answer-is (format-of first) items c (m .event)
 
-abbrev pub throughout : Port → List Item → Count → List Moment → Type 0
+abbrev pub throughout : Port → List LineItem → Count → List Moment → Type 0
 throughout first items c [] = Unit {0}
 throughout first items c (m ∷ ms) = Holds first items (count-after c (m .event)) m × throughout first items (count-after c (m .event)) ms
 
 -- the same of the completions, word by word: of a word with the items `xs` before it, as far as the halves of these moments reach
-pub record Once (f : Format) (ms : List Moment) (xs : List Item) : Type 0 where
+pub record Once (f : Format) (ms : List Moment) (xs : List LineItem) : Type 0 where
   -- when its first stop cell begins there have been as many completions as words before it,
   pub before : span-of f xs + stop f * f .«half_bit» ≤ length (levels ms) → completed ms (span-of f xs + stop f * f .«half_bit») ≡ words-in xs
   -- within the cell there is at most one more,
@@ -170,23 +172,23 @@ pub record HistoryEnd (s : Wired) : Type 0 where
   pub clock : internal (s .port) ≡ true
 
 -- ---- lists of direct calls
-module _ (direct : Call → Port → Answer) where
-  unfoldable pub run : Wired → List Call → Wired
-  run s [] = s
-  run s (c ∷ cs) =
+module _ (direct : Command → Port → Answer) where
+  unfoldable pub run-wired : Wired → List Command → Wired
+  run-wired s [] = s
+  run-wired s (c ∷ cs) =
       let a = direct c (s .port) in
-      run (step c a s) cs
+      run-wired (wired-after c a s) cs
 
   -- every call of a list, with its answer, and the port and line after it
-  abbrev pub each : (Call → Answer → Wired → Type 0) → Wired → List Call → Type 0
+  abbrev pub each : (Command → Answer → Wired → Type 0) → Wired → List Command → Type 0
   each P s [] = Unit {0}
   each P s (c ∷ cs) =
       let a = direct c (s .port) in
-      P c a (step c a s) × each P (step c a s) cs
+      P c a (wired-after c a s) × each P (wired-after c a s) cs
 
   -- the port at the j-th half of a wait made on p: the same port's answer to a wait of j halves
   abbrev pub waited : ℕ → Port → Port
-  waited j p = after (direct (lets-pass j) p)
+  waited j p = after (direct (Wait j) p)
 
   -- n more halves of a wait made on p at the level m, after its first i halves have led to the port `before`
   unfoldable pub wait-trace : ℕ → ℕ → Bool → Port → Port → List Moment
@@ -200,53 +202,53 @@ module _ (direct : Call → Port → Answer) where
   wait-moments n (done v q) s = cond (internal (s .port)) (wait-trace n 0 (line-at-mark s) (s .port) (s .port)) (one-moment (λ v. other) (done v q))
   wait-moments n (refused k offset q) s = []
 
-  abbrev pub call-trace : Call → Answer → Wired → List Moment
-  call-trace (lets-pass n) a s = wait-moments n a s
-  call-trace (reads x) a s = one-moment (λ v. cond (eqb x 0xff9d) (rdr-read v) other) a
-  call-trace (writes x v) a s = one-moment (λ v. other) a
-  call-trace (sets-line b) a s = one-moment (λ v. other) a
-  call-trace (sets-pins c b) a s = one-moment (λ v. other) a
-  call-trace (sets-power b) a s = one-moment (λ v. other) a
-  call-trace passes-inside a s = one-moment (λ v. other) a
+  abbrev pub call-trace : Command → Answer → Wired → List Moment
+  call-trace (Wait n) a s = wait-moments n a s
+  call-trace (Read x) a s = one-moment (λ v. cond (eqb x 0xff9d) (rdr-read v) other) a
+  call-trace (Write x v) a s = one-moment (λ v. other) a
+  call-trace (Line b) a s = one-moment (λ v. other) a
+  call-trace (Pins c b) a s = one-moment (λ v. other) a
+  call-trace (Power b) a s = one-moment (λ v. other) a
+  call-trace Inside a s = one-moment (λ v. other) a
 
   -- the moments of a list of calls
-  unfoldable pub trace : Wired → List Call → List Moment
+  unfoldable pub trace : Wired → List Command → List Moment
   trace s [] = []
   trace s (c ∷ cs) =
       let a = direct c (s .port) in
-      call-trace c a s ++ trace (step c a s) cs
+      call-trace c a s ++ trace (wired-after c a s) cs
 
   -- "Rest: at least 384 halves, the line at mark throughout, no register but SSR and RDR written. At its end SSR is without 0x78, and the receiver
   -- holds no word of clocked form at any position"
-  pub record Rest (s : Wired) (cs : List Call) : Type 0 where
+  pub record Rest (s : Wired) (cs : List Command) : Type 0 where
     pub line : line-at-mark s ≡ true
     pub calls : each (λ c a s. allowed-in-rest c a × (line-at-mark s ≡ true)) s cs
     pub long : 384 ≤ length (levels (trace s cs))
-    pub flags : has (run s cs .port .ssr) 0x78 ≡ false
-    pub no-clocked-word : rx-clocked (run s cs .port .rx) ≡ false
+    pub flags : has (run-wired s cs .port .ssr) 0x78 ≡ false
+    pub no-clocked-word : rx-clocked (run-wired s cs .port .rx) ≡ false
 
   -- "Words: mark for any number of halves, and words, up to the list's end, which may cut a word", in the format of "the standing SMR and SEMR"
-  pub record Words (s : Wired) (cs : List Call) (items : List Item) : Type 0 where
+  pub record Words (s : Wired) (cs : List Command) (items : List LineItem) : Type 0 where
     pub calls : each (λ c a s. allowed-in-words c a) s cs
     pub line : prefix (levels (trace s cs)) (signal (format-of (s .port)) items)
     pub reads : separated none-yet (trace s cs)
 
   -- where history and rest lead
-  abbrev pub rest-end : List Call → List Call → Wired
-  rest-end history rest = run (run start history) rest
+  abbrev pub rest-end : List Command → List Command → Wired
+  rest-end history rest = run-wired (run-wired start history) rest
 
   -- what follows
-  pub record Recovered (history rest words : List Call) (items : List Item) : Type 0 where
+  pub record Recovered (history rest words : List Command) (items : List LineItem) : Type 0 where
     -- the port keeps passing its own field test: no call of the list is refused by 8
     pub tested : each (λ c a s. by-8 a ≡ false) start (history ++ (rest ++ words))
     -- before the first moment of the words all holds with nothing counted, and from there on it holds at each moment
     pub at-first : Holds (rest-end history rest .port) items none-yet (record { event = other; port = rest-end history rest .port })
     pub conditions : throughout (rest-end history rest .port) items none-yet (trace (rest-end history rest) words)
     -- each word is completed once, in its first stop cell, in order
-    pub once : (xs ys : List Item) (v : ℕ) → items ≡ xs ++ (word-of v ∷ ys) → Once (format-of (rest-end history rest .port)) (trace (rest-end history rest) words) xs
+    pub once : (xs ys : List LineItem) (v : ℕ) → items ≡ xs ++ (word-of v ∷ ys) → Once (format-of (rest-end history rest .port)) (trace (rest-end history rest) words) xs
 
   -- THE CLAIM. "The list is history, rest and words", three lists of calls, refused ones anywhere, made one after the other on a fresh port
   unfoldable pub Recovers : Type 0
   Recovers =
-      (history rest words : List Call) (items : List Item)
-      → HistoryEnd (run start history) → Rest (run start history) rest → Words (rest-end history rest) words items → Recovered history rest words items
+      (history rest words : List Command) (items : List LineItem)
+      → HistoryEnd (run-wired start history) → Rest (run-wired start history) rest → Words (rest-end history rest) words items → Recovered history rest words items

@@ -11,11 +11,11 @@ use lib.ListN.{length, drop, getD, replicate, length-replicate}
 use lib.Seq.{drop-drop, getD-drop}
 use lib.Dec.{eqb}
 use borrow.Author.Tests.{lt-ltb, le-ltb}
-use Rattle.sci.specs.declared.Port.{Port}
-use Rattle.sci.specs.declared.Refusal.{Refusal}
-use Rattle.sci.specs.declared.Refusal.the-variants.{Address, Operand, Infrared, Count, Short, Number, Kind, State, Full}
-use Rattle.sci.specs.Calls.{number}
-use Rattle.sci.specs.Power.{fresh}
+use Rattle.port.specs.declared.Port.{Port}
+use Rattle.port.specs.declared.Refusal.{Refusal}
+use Rattle.port.specs.declared.Refusal.the-variants.{Address, Operand, Infrared, Count, Short, Number, Kind, State, Full}
+use Rattle.port.specs.Calls.{number}
+use Rattle.port.specs.Power.{fresh}
 use Rattle.player.specs.declared.End.{End}
 use Rattle.player.specs.declared.End.the-variants.{Accepted, Refused}
 use Rattle.player.specs.declared.Played.{Played}

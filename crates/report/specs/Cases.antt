@@ -6,17 +6,17 @@ use mathlib.Core.Path.{_≡_, refl}
 use mathlib.Core.List.{List, [], _∷_, _++_, map}
 use lib.ListN.{replicate}
 use Rattle.frame.specs.Frame.{bits, number, odd-ones, format, parity-cell, frame, word, format-valid, word-valid}
-use Rattle.words.specs.Receiver.{sample-at}
-use Rattle.words.specs.Valid.{character-valid, word-in-place}
-use Rattle.sci.specs.Receiver.{arm-receive, complete-receive, advance-rx}
-use Rattle.sci.specs.Sender.{loaded, preloaded, begin, start-at, try-start, next-cell, advance-tx}
-use Rattle.sci.specs.Clocked.{refresh-sync-clock, take-bit, receive-bit, tail-ends, bit-out, shift-out, sync-edge}
-use Rattle.sci.specs.Half.{process-basic, sync, clocked-edge, advance, half-step, halves}
-use Rattle.sci.specs.Registers.{peek, read, write-scr, write-tdr, status-with, status-write, stored, connect, load-tail, settled, write}
-use Rattle.sci.specs.Power.{fresh, reset-registers, reset, set-power}
-use Rattle.sci.specs.Pins.{receive-input, external-edge, input-pins, transmit-level, interrupt}
-use Rattle.sci.specs.Valid.{registers-valid, valid}
-use Rattle.sci.specs.Calls.{called, direct}
+use Rattle.shift.specs.Receiver.{sample-at}
+use Rattle.shift.specs.Valid.{character-valid, word-in-place}
+use Rattle.port.specs.Receiver.{arm-receive, complete-receive, advance-rx}
+use Rattle.port.specs.Sender.{loaded, preloaded, begin, start-at, try-start, next-cell, advance-tx}
+use Rattle.port.specs.Clocked.{refresh-sync-clock, take-bit, receive-bit, tail-ends, bit-out, shift-out, sync-edge}
+use Rattle.port.specs.Half.{process-basic, sync, clocked-edge, advance, half-step, halves}
+use Rattle.port.specs.Registers.{peek, read, write-scr, write-tdr, status-with, status-write, stored, connect, load-tail, after-store, write}
+use Rattle.port.specs.Power.{fresh, reset-registers, reset, set-power}
+use Rattle.port.specs.Pins.{receive-input, external-edge, input-pins, transmit-level, interrupt}
+use Rattle.port.specs.Valid.{registers-valid, valid}
+use Rattle.port.specs.Calls.{called, direct}
 use Rattle.player.specs.Play.{Run, play-items, play}
 use Rattle.report.specs.Printout.{printout}
 use Rattle.report.specs.Lines.{record-line, end-line, refused-line}
@@ -73,7 +73,7 @@ joined [] = 101 ∷ 110 ∷ 100 ∷ 32 ∷ 51 ∷ 53 ∷ 50 ∷ 10 ∷ []
 joined (l ∷ ls) = l ++ joined ls
 
 pub whole-run : printout input ≡ joined (map (λ k. k .text) cases)
-unfolding printout play play-items transmit-level interrupt direct called valid registers-valid character-valid word-in-place format-valid word-valid fresh reset-registers reset set-power receive-input external-edge input-pins peek read write-scr write-tdr status-with status-write stored connect load-tail settled write process-basic sync clocked-edge advance half-step halves refresh-sync-clock take-bit receive-bit tail-ends bit-out shift-out sync-edge loaded preloaded begin start-at try-start next-cell advance-tx sample-at arm-receive complete-receive advance-rx bits number odd-ones format parity-cell frame word
+unfolding printout play play-items transmit-level interrupt direct called valid registers-valid character-valid word-in-place format-valid word-valid fresh reset-registers reset set-power receive-input external-edge input-pins peek read write-scr write-tdr status-with status-write stored connect load-tail after-store write process-basic sync clocked-edge advance half-step halves refresh-sync-clock take-bit receive-bit tail-ends bit-out shift-out sync-edge loaded preloaded begin start-at try-start next-cell advance-tx sample-at arm-receive complete-receive advance-rx bits number odd-ones format parity-cell frame word
 whole-run = refl
 
 -- ---- refused commands
@@ -108,5 +108,5 @@ abbrev pub told-by : Run → List ℕ
 told-by r = r .number ∷ r .offset ∷ r .used ∷ []
 
 pub each-refusal : map (λ k. told-by (play fresh (k .script) (replicate (k .room) 0))) refused-cases ≡ map (λ k. k .told) refused-cases
-unfolding play play-items transmit-level interrupt direct called valid registers-valid character-valid word-in-place format-valid word-valid fresh reset-registers reset set-power receive-input external-edge input-pins peek read write-scr write-tdr status-with status-write stored connect load-tail settled write process-basic sync clocked-edge advance half-step halves refresh-sync-clock take-bit receive-bit tail-ends bit-out shift-out sync-edge loaded preloaded begin start-at try-start next-cell advance-tx sample-at arm-receive complete-receive advance-rx bits number odd-ones format parity-cell frame word
+unfolding play play-items transmit-level interrupt direct called valid registers-valid character-valid word-in-place format-valid word-valid fresh reset-registers reset set-power receive-input external-edge input-pins peek read write-scr write-tdr status-with status-write stored connect load-tail after-store write process-basic sync clocked-edge advance half-step halves refresh-sync-clock take-bit receive-bit tail-ends bit-out shift-out sync-edge loaded preloaded begin start-at try-start next-cell advance-tx sample-at arm-receive complete-receive advance-rx bits number odd-ones format parity-cell frame word
 each-refusal = refl

@@ -7,7 +7,7 @@ use mathlib.Core.Bool.{cond}
 use mathlib.Core.List.{List, [], _∷_, _++_}
 use lib.ListN.{length, drop, getD, replicate}
 use lib.Dec.{ltb, eqb}
-use Rattle.sci.specs.Power.{fresh}
+use Rattle.port.specs.Power.{fresh}
 use Rattle.player.specs.Play.{Run, record-length, play}
 use Rattle.report.specs.Lines.{record-line, end-line, refused-line}
 

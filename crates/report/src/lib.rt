@@ -9,7 +9,7 @@ ghost use Rattle.report.specs.Lines.{hex-digit, bit, level, record-line,
 ghost use Rattle.report.specs.Printout.{first-line, record-lines, last-line, printout};
 use player::End;
 use player::RECORD;
-use sci::Port;
+use port::Port;
 
 // The longest script that the program takes.
 const LONGEST: usize = 16384;

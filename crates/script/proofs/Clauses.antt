@@ -10,12 +10,13 @@ use Rattle.script.specs.declared.Fault.{Fault}
 use Rattle.script.specs.declared.Fault.the-variants.{Kind, Operand}
 use Rattle.script.specs.declared.Number.{Number}
 use Rattle.script.specs.declared.Number.the-variants.{Value, Refused}
-use Rattle.script.specs.declared.Operands.{Operands}
-use Rattle.script.specs.declared.Operands.the-variants.{None, One, Two, Unknown}
-use Rattle.script.specs.declared.Command.{Command}
+use Rattle.command.specs.declared.Operands.{Operands}
+use Rattle.command.specs.declared.Operands.the-variants.{None, One, Two, Unknown}
+use Rattle.command.specs.declared.Command.{Command}
 use Rattle.script.specs.declared.Decoded.{Decoded}
 use Rattle.script.specs.declared.Decoded.the-variants.{Command as Found, Refused as Refuses}
-use Rattle.script.specs.Command.{command-of, in-range, operand-at, and-then, with-operands}
+use Rattle.command.specs.Command.{command-of}
+use Rattle.script.specs.Command.{in-range, operand-at, and-then, with-operands}
 
 module _ (n r : Number) (e : r ≡ n) where
   pub goes-on : (f : ℕ → ℕ → Decoded) (z : Decoded) (v next : ℕ) → r ≡ Value v next → z ≡ f v next → z ≡ and-then n f

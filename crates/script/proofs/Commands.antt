@@ -11,15 +11,16 @@ use borrow.Author.Tests.{le-leb, leb-true, eqb-true}
 use Rattle.script.specs.declared.Fault.{Fault}
 use Rattle.script.specs.declared.Number.{Number}
 use Rattle.script.specs.declared.Number.the-variants.{Value, Refused}
-use Rattle.script.specs.declared.Operands.{Operands}
-use Rattle.script.specs.declared.Operands.the-variants.{None, One, Two, Unknown}
-use Rattle.script.specs.declared.Command.the-variants.{Read, Write, Wait, Line, Pins, Power, Inside}
+use Rattle.command.specs.declared.Operands.{Operands}
+use Rattle.command.specs.declared.Operands.the-variants.{None, One, Two, Unknown}
+use Rattle.command.specs.declared.Command.the-variants.{Read, Write, Wait, Line, Pins, Power, Inside}
 use Rattle.script.specs.declared.Decoded.{Decoded}
 use Rattle.script.specs.declared.Decoded.the-variants.{Command as Found, Refused as Refuses}
 use Rattle.script.specs.Number.{number-at}
 use Rattle.script.specs.Encode.{encode}
-use Rattle.script.specs.Command.{Row, kinds, look-up, operands-of, command-of, in-range, operand-at, and-then, with-operands, command-at}
-use Rattle.script.specs.Write.{bytes, InRange}
+use Rattle.command.specs.Command.{Row, kinds, look-up, operands-of, command-of, InRange}
+use Rattle.script.specs.Command.{in-range, operand-at, and-then, with-operands, command-at}
+use Rattle.script.specs.Write.{bytes}
 use Rattle.script.specs.RoundTrip.{largest, Bytes, Stands, CommandsReadBack, CommandsAreEncodings}
 use Rattle.branches.proofs.Branches.{by-cond}
 use Rattle.script.proofs.Numbers.{first-part, second-part, side-by-side, numbers-read-back, numbers-are-encodings}

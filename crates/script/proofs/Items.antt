@@ -11,13 +11,14 @@ use lib.Seq.{drop-length}
 use borrow.Author.Tests.{lt-ltb, le-ltb}
 use Rattle.script.specs.declared.Number.{Number}
 use Rattle.script.specs.declared.Number.the-variants.{Value, Refused}
-use Rattle.script.specs.declared.Operands.{Operands}
-use Rattle.script.specs.declared.Operands.the-variants.{None, One, Two, Unknown}
-use Rattle.script.specs.declared.Command.{Command}
+use Rattle.command.specs.declared.Operands.{Operands}
+use Rattle.command.specs.declared.Operands.the-variants.{None, One, Two, Unknown}
+use Rattle.command.specs.declared.Command.{Command}
 use Rattle.script.specs.declared.Decoded.{Decoded}
 use Rattle.script.specs.declared.Decoded.the-variants.{Command as Found, Refused as Refuses}
 use Rattle.script.specs.Number.{breaks, groups, with-group, number-at}
-use Rattle.script.specs.Command.{operands-of, command-of, operand-at, and-then, with-operands, command-at}
+use Rattle.command.specs.Command.{operands-of, command-of}
+use Rattle.script.specs.Command.{operand-at, and-then, with-operands, command-at}
 use Rattle.script.specs.Items.{Item, call, item, items-up-to, items, ItemsNext, ItemsNone}
 use Rattle.script.specs.Write.{bytes}
 use Rattle.script.specs.RoundTrip.{Stands, script, calls, AllInRange, ScriptsReadBack}

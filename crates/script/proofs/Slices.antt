@@ -9,12 +9,13 @@ use lib.ListN.{getD}
 use mir.Syntax.{w8}
 use mir.Val.{Fits}
 use Rattle.script.specs.declared.Number.the-variants.{Value}
-use Rattle.script.specs.declared.Command.{Command}
+use Rattle.command.specs.declared.Command.{Command}
 use Rattle.script.specs.declared.Decoded.the-variants.{Command as Found}
 use Rattle.script.specs.Number.{number-at}
 use Rattle.script.specs.Encode.{encode}
 use Rattle.script.specs.Command.{command-at}
-use Rattle.script.specs.Write.{bytes, InRange}
+use Rattle.script.specs.Write.{bytes}
+use Rattle.command.specs.Command.{InRange}
 use Rattle.script.specs.RoundTrip.{largest, Bytes, Stands}
 use Rattle.script.proofs.Numbers.{numbers-are-encodings}
 use Rattle.script.proofs.Commands.{commands-are-encodings}

@@ -5,7 +5,7 @@ use Prim.Native.Nat.{ℕ}
 use mathlib.Core.Path.{_≡_, refl}
 use mathlib.Core.List.{List, [], _∷_, map}
 use Rattle.script.specs.declared.Fault.the-variants.{Short, Number as NotANumber, Kind, Operand}
-use Rattle.script.specs.declared.Command.the-variants.{Read, Write, Wait, Pins, Power, Inside}
+use Rattle.command.specs.declared.Command.the-variants.{Read, Write, Wait, Pins, Power, Inside}
 use Rattle.script.specs.Items.{Item, call, stop, items}
 
 -- a script and its items

@@ -8,10 +8,10 @@ use lib.Dec.{leb, eqb}
 use Rattle.script.specs.declared.Fault.the-variants.{Kind, Operand}
 use Rattle.script.specs.declared.Number.{Number}
 use Rattle.script.specs.declared.Number.the-variants.{Value, Refused}
-use Rattle.script.specs.declared.Operands.{Operands}
-use Rattle.script.specs.declared.Operands.the-variants.{None, One, Two, Unknown}
-use Rattle.script.specs.declared.Command.{Command}
-use Rattle.script.specs.declared.Command.the-variants.{Read, Write, Wait, Line, Pins, Power, Inside}
+use Rattle.command.specs.declared.Operands.{Operands}
+use Rattle.command.specs.declared.Operands.the-variants.{None, One, Two, Unknown}
+use Rattle.command.specs.declared.Command.{Command}
+use Rattle.command.specs.declared.Command.the-variants.{Read, Write, Wait, Line, Pins, Power, Inside}
 use Rattle.script.specs.declared.Decoded.{Decoded}
 use Rattle.script.specs.declared.Decoded.the-variants.{Command as Found, Refused as Refuses}
 use Rattle.script.specs.Number.{number-at}

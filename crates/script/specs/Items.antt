@@ -8,7 +8,7 @@ use mathlib.Core.List.{List, [], _∷_}
 use lib.ListN.{length}
 use lib.Dec.{ltb}
 use Rattle.script.specs.declared.Fault.{Fault}
-use Rattle.script.specs.declared.Command.{Command}
+use Rattle.command.specs.declared.Command.{Command}
 use Rattle.script.specs.declared.Decoded.{Decoded}
 use Rattle.script.specs.declared.Decoded.the-variants.{Command as Found, Refused as Refuses}
 use Rattle.script.specs.Command.{command-at}

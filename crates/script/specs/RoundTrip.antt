@@ -6,13 +6,14 @@ use mathlib.Core.Path.{_≡_}
 use mathlib.Core.List.{List, [], _∷_, _++_}
 use lib.ListN.{length, drop}
 use Rattle.script.specs.declared.Number.the-variants.{Value}
-use Rattle.script.specs.declared.Command.{Command}
+use Rattle.command.specs.declared.Command.{Command}
 use Rattle.script.specs.declared.Decoded.the-variants.{Command as Found}
 use Rattle.script.specs.Number.{number-at}
 use Rattle.script.specs.Encode.{encode}
 use Rattle.script.specs.Command.{command-at}
 use Rattle.script.specs.Items.{Item, call, items}
-use Rattle.script.specs.Write.{bytes, InRange}
+use Rattle.script.specs.Write.{bytes}
+use Rattle.command.specs.Command.{InRange}
 
 -- the largest number
 abbrev pub largest : ℕ

@@ -7,14 +7,14 @@ use mathlib.Core.List.{List, [], _∷_, _++_}
 use lib.ListN.{length}
 use lib.Dec.{leb}
 use Rattle.store.specs.Store.{store}
-use Rattle.script.specs.declared.Operands.{Operands}
-use Rattle.script.specs.declared.Operands.the-variants.{None, One, Two, Unknown}
-use Rattle.script.specs.declared.Command.{Command}
-use Rattle.script.specs.declared.Command.the-variants.{Read, Write, Wait, Line, Pins, Power, Inside}
+use Rattle.command.specs.declared.Operands.{Operands}
+use Rattle.command.specs.declared.Operands.the-variants.{None, One, Two, Unknown}
+use Rattle.command.specs.declared.Command.{Command}
+use Rattle.command.specs.declared.Command.the-variants.{Read, Write, Wait, Line, Pins, Power, Inside}
 use Rattle.script.specs.declared.Written.{Written}
 use Rattle.script.specs.declared.Written.the-variants.{To, Full}
 use Rattle.script.specs.Encode.{encode}
-use Rattle.script.specs.Command.{operands-of}
+use Rattle.command.specs.Command.{operands-of}
 
 abbrev pub kind : Command → ℕ
 kind (Read a) = 1
@@ -65,8 +65,8 @@ pub record Put : Type 0 where
   pub answer : Written
   pub buffer : List ℕ
 
-abbrev pub answered : Written → List ℕ → Put
-answered w l = record { answer = w; buffer = l }
+abbrev pub as-put : Written → List ℕ → Put
+as-put w l = record { answer = w; buffer = l }
 
 abbrev pub put : List ℕ → ℕ → List ℕ → Put
-put bs at buf = cond (leb (at + length bs) (length buf)) (answered (To (at + length bs)) (store at bs buf)) (answered Full buf)
+put bs at buf = cond (leb (at + length bs) (length buf)) (as-put (To (at + length bs)) (store at bs buf)) (as-put Full buf)

@@ -6,8 +6,9 @@ ghost use lib.ListN.{length, drop};
 ghost use Rattle.store.specs.Store.{Stored};
 ghost use Rattle.script.specs.Number.{fault-number, breaks, number-at};
 ghost use Rattle.script.specs.Encode.{encode-in, encode};
-ghost use Rattle.script.specs.Command.{operands-of, command-of, operand-at, and-then, command-at};
-ghost use Rattle.script.specs.Write.{kind, encode-all, bytes, answered, put};
+ghost use Rattle.command.specs.Command.{operands-of, command-of, kind};
+ghost use Rattle.script.specs.Command.{operand-at, and-then, command-at};
+ghost use Rattle.script.specs.Write.{encode-all, bytes, as-put, put};
 
 // Why a command cannot be read.
 pub enum Fault {
@@ -296,7 +297,7 @@ fn put_number(buf: &mut [u8], at: usize, v: u32) -> usize
 
 // Writes a number at an offset of the buffer.
 pub fn write_number(buf: &mut [u8], at: usize, v: u32) -> Written
-    ensures { λ r. ⌜ answered r (now (buf .exit)) ≡ put (encode v) at (now (buf .entry)) ⌝ }
+    ensures { λ r. ⌜ as-put r (now (buf .exit)) ≡ put (encode v) at (now (buf .entry)) ⌝ }
 {
     if store::fits(buf.len(), at, size(v)) {
         Written::To(put_number(buf, at, v))
@@ -307,7 +308,7 @@ pub fn write_number(buf: &mut [u8], at: usize, v: u32) -> Written
 
 // Writes two numbers at an offset of the buffer, or neither.
 fn write_two(buf: &mut [u8], at: usize, k: u32, a: u32) -> Written
-    ensures { λ r. ⌜ answered r (now (buf .exit)) ≡ put (encode-all (k ∷ a ∷ [])) at (now (buf .entry)) ⌝ }
+    ensures { λ r. ⌜ as-put r (now (buf .exit)) ≡ put (encode-all (k ∷ a ∷ [])) at (now (buf .entry)) ⌝ }
 {
     if store::fits(buf.len(), at, size(k) + size(a)) {
         let second = put_number(buf, at, k);
@@ -319,7 +320,7 @@ fn write_two(buf: &mut [u8], at: usize, k: u32, a: u32) -> Written
 
 // Writes three numbers at an offset of the buffer, or none.
 fn write_three(buf: &mut [u8], at: usize, k: u32, a: u32, b: u32) -> Written
-    ensures { λ r. ⌜ answered r (now (buf .exit)) ≡ put (encode-all (k ∷ a ∷ b ∷ [])) at (now (buf .entry)) ⌝ }
+    ensures { λ r. ⌜ as-put r (now (buf .exit)) ≡ put (encode-all (k ∷ a ∷ b ∷ [])) at (now (buf .entry)) ⌝ }
 {
     if store::fits(buf.len(), at, size(k) + size(a) + size(b)) {
         let second = put_number(buf, at, k);
@@ -332,7 +333,7 @@ fn write_three(buf: &mut [u8], at: usize, k: u32, a: u32, b: u32) -> Written
 
 // Writes a command at an offset of the buffer. An operand above its range is written as it is; reading refuses it.
 pub fn write_command(buf: &mut [u8], at: usize, c: Command) -> Written
-    ensures { λ r. ⌜ answered r (now (buf .exit)) ≡ put (bytes c) at (now (buf .entry)) ⌝ }
+    ensures { λ r. ⌜ as-put r (now (buf .exit)) ≡ put (bytes c) at (now (buf .entry)) ⌝ }
 {
     match c {
         Command::Read { address } => write_two(buf, at, 1, address),

@@ -1,6 +1,6 @@
 use borrow.Author.Needs.{needs}
 use Rattle.frame.proofs.Choose.{choose}
-use Rattle.words.proofs.Same.{same-character}
+use Rattle.shift.proofs.Same.{same-character}
 use Rattle.capi.proofs.Fits.{placed}
 use Rattle.capi.specs.State.{character-in}
 use Rattle.capi.proofs.character_in.Statement.{statement}

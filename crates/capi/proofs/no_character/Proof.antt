@@ -1,5 +1,5 @@
 use borrow.Author.Needs.{needs}
-use Rattle.words.proofs.Same.{same-character}
+use Rattle.shift.proofs.Same.{same-character}
 use Rattle.capi.proofs.no_character.Statement.{statement}
 use Rattle.capi.proofs.no_character.Tie as tie
 

@@ -1,5 +1,5 @@
 use borrow.Author.Needs.{needs}
-use Rattle.words.proofs.Same.{same-rx}
+use Rattle.shift.proofs.Same.{same-rx}
 use Rattle.capi.proofs.no_rx.Statement.{statement}
 use Rattle.capi.proofs.no_rx.Tie as tie
 

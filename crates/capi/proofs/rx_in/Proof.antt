@@ -1,6 +1,6 @@
 use borrow.Author.Needs.{needs}
 use Rattle.frame.proofs.Choose.{choose}
-use Rattle.sci.proofs.Steps.{busy-eq}
+use Rattle.port.proofs.Steps.{busy-eq}
 use Rattle.capi.proofs.Fits.{placed}
 use Rattle.capi.specs.State.{rx-in}
 use Rattle.capi.proofs.rx_in.Statement.{statement}

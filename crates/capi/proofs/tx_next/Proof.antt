@@ -1,5 +1,5 @@
 use borrow.Author.Needs.{needs}
-use Rattle.words.proofs.Clauses.{tx-next-mark, tx-next-start, tx-next-data}
+use Rattle.shift.proofs.Clauses.{tx-next-mark, tx-next-start, tx-next-data}
 use Rattle.capi.proofs.tx_next.Statement.{statement}
 use Rattle.capi.proofs.tx_next.Tie as tie
 

@@ -1,6 +1,6 @@
 use borrow.Author.Needs.{needs}
 use Rattle.frame.proofs.Choose.{choose}
-use Rattle.words.proofs.Same.{same-rx}
+use Rattle.shift.proofs.Same.{same-rx}
 use Rattle.capi.proofs.Fits.{placed}
 use Rattle.capi.specs.State.{word-in}
 use Rattle.capi.proofs.word_in.Statement.{statement}

@@ -1,0 +1,26 @@
+use Rattle.port.proofs.CallLaws.{not-external, refused-by-8, sum-fits, wait-counted, wait-past-limit, wait-too-long, wait-uncounted}
+use Rattle.port.proofs.Checked.{flag-ready}
+use borrow.Author.Needs.{needs}
+use Rattle.port.proofs.Port.wait.Statement.{statement}
+use Rattle.port.proofs.Port.wait.Tie as tie
+
+pub wait-spec : {M : Type 1} → statement M
+wait-spec =
+    tie.close
+    (tie.spec
+    (λ c κs. search needs)
+    (λ c κs. search needs)
+    (λ c. search (wait-too-long, needs) depth 10)
+    (λ c κs. search needs)
+    (λ c κs. search needs)
+    (λ c. search (sum-fits, needs))
+    (λ c κs. search (flag-ready, not-external, needs) depth 10)
+    (λ c κs. search needs)
+    (λ c. search (wait-counted, needs) depth 10)
+    (λ c κs. search needs)
+    (λ c. search (wait-past-limit, needs) depth 10)
+    (λ c κs. search needs)
+    (λ c κs. search needs)
+    (λ c. search (wait-uncounted, needs) depth 10)
+    (λ c κs. search needs)
+    (λ c. search (refused-by-8, needs) depth 10))

@@ -1,0 +1,97 @@
+-- The direct calls of kinds 1 to 7 (document 01, "A script comes in"), with the refusals 8, 2, 1, 3, 4 in that order.
+-- Assumes nothing.
+use Prim.Native.Nat.{ℕ, _+_}
+use mathlib.Core.Bool.{Bool, cond, not, _&&_}
+use mathlib.Core.List.{List, [], _∷_}
+use lib.Dec.{eqb, leb}
+use Rattle.frame.specs.Frame.{has}
+use Rattle.port.specs.declared.Port.{Port}
+use Rattle.port.specs.declared.Refusal.{Refusal}
+use Rattle.port.specs.declared.Refusal.the-variants.{Address, Operand, Infrared, Count, Short, Number, Kind, State, Full}
+use Rattle.port.specs.declared.Outcome.{Outcome}
+use Rattle.port.specs.declared.Outcome.the-variants.{Done, Refused}
+use Rattle.port.specs.declared.Called.{Called}
+use Rattle.port.specs.Baud.{internal, edge-counts}
+use Rattle.port.specs.Half.{halves, uncounted, inside}
+use Rattle.port.specs.Registers.{handles, peek, read, write}
+use Rattle.port.specs.Power.{set-power}
+use Rattle.port.specs.Pins.{receive-input, pins-change, input-pins}
+use Rattle.port.specs.Valid.{limit, valid}
+
+-- kinds 1 to 7 with their operands
+pub data Call : Type 0 where
+  reads : ℕ → Call
+  writes : ℕ → ℕ → Call
+  lets-pass : ℕ → Call
+  sets-line : ℕ → Call
+  sets-pins : ℕ → ℕ → Call
+  sets-power : ℕ → Call
+  passes-inside : Call
+
+-- accepted, with the value read (else 0) and the port after the call; or refused, with document 01's number, the offset, and the port as it was
+pub data Answer : Type 0 where
+  done : ℕ → Port → Answer
+  refused : ℕ → ℕ → Port → Answer
+
+-- the port that a call leaves
+abbrev pub after : Answer → Port
+after (done v q) = q
+after (refused n offset q) = q
+
+-- a direct call is at offset 0
+abbrev pub refuse : ℕ → Port → Answer
+refuse n p = refused n 0 p
+
+-- an operand 0 or 1 as a level
+abbrev pub bit : ℕ → Bool
+bit n = not (eqb n 0)
+
+-- the tests 2, 1, 3 and 4, and the call
+unfoldable pub called : Call → Port → Answer
+called (reads a) p =
+    cond (leb a 65535) (cond (handles a) (done (peek p a) (read a p)) (refuse 1 p)) (refuse 2 p)
+called (writes a v) p =
+    cond (leb a 65535 && leb v 255)
+    (cond (handles a) (cond (eqb a 0xffa7 && leb 128 v) (refuse 3 p) (done 0 (write a v p))) (refuse 1 p))
+    (refuse 2 p)
+called (lets-pass n) p =
+    cond (leb n 65535)
+    (cond (internal p) (cond (leb (p .half + n) limit) (done 0 (halves n p)) (refuse 4 p)) (done 0 (uncounted n p)))
+    (refuse 2 p)
+called (sets-line line) p = cond (leb line 1) (done 0 (receive-input (bit line) p)) (refuse 2 p)
+called (sets-pins clock line) p =
+    cond (leb clock 1 && leb line 1)
+    (cond (pins-change (bit clock) (bit line) p && (edge-counts (bit clock) p && leb limit (p .half))) (refuse 4 p)
+    (done 0 (input-pins (bit clock) (bit line) p)))
+    (refuse 2 p)
+called (sets-power b) p =
+    cond (leb b 15) (done 0 (set-power (has b 1) (has b 2) (has b 4) (has b 8) p)) (refuse 2 p)
+called passes-inside p = done 0 (inside p)
+
+-- a direct call: test 8 first
+unfoldable pub direct : Call → Port → Answer
+direct c p = cond (valid p) (called c p) (refuse 8 p)
+
+-- the port after a list of direct calls: each gets the port that the one before left
+unfoldable pub run : Port → List Call → Port
+run p [] = p
+run p (c ∷ cs) = run (after (direct c p)) cs
+
+-- ---- the code's answers, in document 01's numbers
+abbrev pub number : Refusal → ℕ
+number Address = 1
+number Operand = 2
+number Infrared = 3
+number Count = 4
+number Short = 5
+number Number = 6
+number Kind = 7
+number State = 8
+number Full = 9
+
+abbrev pub answer-of : Outcome → Port → Answer
+answer-of (Done v) p = done v p
+answer-of (Refused refusal offset) p = refused (number refusal) offset p
+
+abbrev pub answer : Called → Answer
+answer r = answer-of (r .outcome) (r .port)
