@@ -4,6 +4,9 @@ use Prim.Native.Nat.{ℕ, _+_}
 use mathlib.Core.Bool.{Bool, cond, not, _&&_}
 use mathlib.Core.List.{List, [], _∷_}
 use lib.Dec.{eqb, leb}
+use Rattle.command.specs.declared.Command.{Command}
+use Rattle.command.specs.declared.Command.the-variants.{Read, Write, Wait, Line, Pins, Power, Inside}
+use Rattle.command.specs.Command.{in-range}
 use Rattle.frame.specs.Frame.{has}
 use Rattle.port.specs.declared.Port.{Port}
 use Rattle.port.specs.declared.Refusal.{Refusal}
@@ -17,16 +20,6 @@ use Rattle.port.specs.Registers.{handles, peek, read, write}
 use Rattle.port.specs.Power.{set-power}
 use Rattle.port.specs.Pins.{receive-input, pins-change, input-pins}
 use Rattle.port.specs.Valid.{limit, valid}
-
--- kinds 1 to 7 with their operands
-pub data Call : Type 0 where
-  reads : ℕ → Call
-  writes : ℕ → ℕ → Call
-  lets-pass : ℕ → Call
-  sets-line : ℕ → Call
-  sets-pins : ℕ → ℕ → Call
-  sets-power : ℕ → Call
-  passes-inside : Call
 
 -- accepted, with the value read (else 0) and the port after the call; or refused, with document 01's number, the offset, and the port as it was
 pub data Answer : Type 0 where
@@ -46,34 +39,29 @@ refuse n p = refused n 0 p
 abbrev pub bit : ℕ → Bool
 bit n = not (eqb n 0)
 
--- the tests 2, 1, 3 and 4, and the call
-unfoldable pub called : Call → Port → Answer
-called (reads a) p =
-    cond (leb a 65535) (cond (handles a) (done (peek p a) (read a p)) (refuse 1 p)) (refuse 2 p)
-called (writes a v) p =
-    cond (leb a 65535 && leb v 255)
-    (cond (handles a) (cond (eqb a 0xffa7 && leb 128 v) (refuse 3 p) (done 0 (write a v p))) (refuse 1 p))
-    (refuse 2 p)
-called (lets-pass n) p =
-    cond (leb n 65535)
-    (cond (internal p) (cond (leb (p .half + n) limit) (done 0 (halves n p)) (refuse 4 p)) (done 0 (uncounted n p)))
-    (refuse 2 p)
-called (sets-line line) p = cond (leb line 1) (done 0 (receive-input (bit line) p)) (refuse 2 p)
-called (sets-pins clock line) p =
-    cond (leb clock 1 && leb line 1)
-    (cond (pins-change (bit clock) (bit line) p && (edge-counts (bit clock) p && leb limit (p .half))) (refuse 4 p)
-    (done 0 (input-pins (bit clock) (bit line) p)))
-    (refuse 2 p)
-called (sets-power b) p =
-    cond (leb b 15) (done 0 (set-power (has b 1) (has b 2) (has b 4) (has b 8) p)) (refuse 2 p)
-called passes-inside p = done 0 (inside p)
+-- the tests 1, 3 and 4, and the call, for operands in range
+abbrev pub ranged : Command → Port → Answer
+ranged (Read a) p = cond (handles a) (done (peek p a) (read a p)) (refuse 1 p)
+ranged (Write a v) p = cond (handles a) (cond (eqb a 0xffa7 && leb 128 v) (refuse 3 p) (done 0 (write a v p))) (refuse 1 p)
+ranged (Wait n) p =
+    cond (internal p) (cond (leb (p .half + n) limit) (done 0 (halves n p)) (refuse 4 p)) (done 0 (uncounted n p))
+ranged (Line line) p = done 0 (receive-input (bit line) p)
+ranged (Pins clock line) p =
+    cond (pins-change (bit clock) (bit line) p && (edge-counts (bit clock) p && leb limit (p .half))) (refuse 4 p)
+    (done 0 (input-pins (bit clock) (bit line) p))
+ranged (Power b) p = done 0 (set-power (has b 1) (has b 2) (has b 4) (has b 8) p)
+ranged Inside p = done 0 (inside p)
+
+-- test 2 first, by the table of kinds
+unfoldable pub called : Command → Port → Answer
+called c p = cond (in-range c) (ranged c p) (refuse 2 p)
 
 -- a direct call: test 8 first
-unfoldable pub direct : Call → Port → Answer
+unfoldable pub direct : Command → Port → Answer
 direct c p = cond (valid p) (called c p) (refuse 8 p)
 
 -- the port after a list of direct calls: each gets the port that the one before left
-unfoldable pub run : Port → List Call → Port
+unfoldable pub run : Port → List Command → Port
 run p [] = p
 run p (c ∷ cs) = run (after (direct c p)) cs
 

@@ -16,7 +16,7 @@ use Rattle.command.specs.declared.Command.{Command}
 use Rattle.script.specs.declared.Decoded.{Decoded}
 use Rattle.script.specs.declared.Decoded.the-variants.{Command as Found, Refused as Refuses}
 use Rattle.command.specs.Command.{command-of}
-use Rattle.script.specs.Command.{in-range, operand-at, and-then, with-operands}
+use Rattle.script.specs.Command.{limited, operand-at, and-then, with-operands}
 
 module _ (n r : Number) (e : r ≡ n) where
   pub goes-on : (f : ℕ → ℕ → Decoded) (z : Decoded) (v next : ℕ) → r ≡ Value v next → z ≡ f v next → z ≡ and-then n f
@@ -26,13 +26,13 @@ module _ (n r : Number) (e : r ≡ n) where
   pub ends : (f g : ℕ → ℕ → Decoded) (y : Decoded) (why : Fault) → r ≡ Refused why → y ≡ and-then r g → y ≡ and-then n f
   ends f g y why t u = u ∙ ap (λ x. and-then x g) t ∙ ap (λ x. and-then x f) (sym t ∙ e)
 
-  pub within : (m : ℕ) (v next : ℕ) → r ≡ Value v next → v ≤ m → Value v next ≡ in-range m n
+  pub within : (m : ℕ) (v next : ℕ) → r ≡ Value v next → v ≤ m → Value v next ≡ limited m n
   within m v next t h = rw (sym e ∙ t, le-leb v m h)
 
-  pub above : (m : ℕ) (v next : ℕ) → r ≡ Value v next → m < v → Refused Operand ≡ in-range m n
+  pub above : (m : ℕ) (v next : ℕ) → r ≡ Value v next → m < v → Refused Operand ≡ limited m n
   above m v next t h = rw (sym e ∙ t, lt-leb v m h)
 
-  pub unread : (m : ℕ) (why : Fault) → r ≡ Refused why → r ≡ in-range m n
+  pub unread : (m : ℕ) (why : Fault) → r ≡ Refused why → r ≡ limited m n
   unread m why t = t ∙ rw (sym e ∙ t)
 
 module _ (s : List ℕ) (k at : ℕ) (o r : Operands) (e : r ≡ o) (z : Decoded) where

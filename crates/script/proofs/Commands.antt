@@ -19,9 +19,10 @@ use Rattle.script.specs.declared.Decoded.the-variants.{Command as Found,
 use Rattle.script.specs.Number.{number-at}
 use Rattle.script.specs.Encode.{encode}
 use Rattle.command.specs.Command.{Row, kinds, look-up, operands-of, command-of, InRange}
-use Rattle.script.specs.Command.{in-range, operand-at, and-then, with-operands, command-at}
+use Rattle.script.specs.Command.{limited, operand-at, and-then, with-operands, command-at}
 use Rattle.script.specs.Write.{bytes}
 use Rattle.script.specs.RoundTrip.{largest, Bytes, Stands, CommandsReadBack, CommandsAreEncodings}
+use mathlib.Mathlib.Data.Bool.Basic.{and-intro, and-elim-left, and-elim-right}
 use Rattle.branches.proofs.Branches.{by-cond}
 use Rattle.script.proofs.Numbers.{first-part, second-part, side-by-side, numbers-read-back, numbers-are-encodings}
 
@@ -36,7 +37,7 @@ module _ (s : List ℕ) (at next k : ℕ) (small : k ≤ largest) where
   module _ (a m : ℕ) (ha : a ≤ m) (hm : m ≤ largest) where
     -- an operand that stands at an offset
     operand-back : {from to : ℕ} → Stands (encode a) s from to → operand-at m s from ≡ Value a to
-    operand-back {from} {to} t = ap (in-range m) (numbers-read-back s from a to t (omega arith)) ∙ rw (le-leb a m ha)
+    operand-back {from} {to} t = ap (limited m) (numbers-read-back s from a to t (omega arith)) ∙ rw (le-leb a m ha)
 
     one-back : operands-of k ≡ One m → Stands (encode k ++ (encode a ++ [])) s at next → command-at s at ≡ Found (command-of k a 0) next
     one-back e t =
@@ -60,12 +61,12 @@ module _ (s : List ℕ) (at next k : ℕ) (small : k ≤ largest) where
       ∙ ap (λ v. and-then v (λ b next. Found (command-of k a b) next)) (operand-back b n hb hn u))
 
 pub commands-read-back : CommandsReadBack
-commands-read-back s at next (Read a) t h = one-back s at next 1 (omega arith) a 65535 (h .0) (omega arith) refl t
-commands-read-back s at next (Write a v) t h = two-back s at next 2 (omega arith) a v 65535 255 (h .0) (h .1 .0) (omega arith) (omega arith) refl t
-commands-read-back s at next (Wait n) t h = one-back s at next 3 (omega arith) n 65535 (h .0) (omega arith) refl t
-commands-read-back s at next (Line l) t h = one-back s at next 4 (omega arith) l 1 (h .0) (omega arith) refl t
-commands-read-back s at next (Pins c l) t h = two-back s at next 5 (omega arith) c l 1 1 (h .0) (h .1 .0) (omega arith) (omega arith) refl t
-commands-read-back s at next (Power b) t h = one-back s at next 6 (omega arith) b 15 (h .0) (omega arith) refl t
+commands-read-back s at next (Read a) t h = one-back s at next 1 (omega arith) a 65535 (leb-true a 65535 h) (omega arith) refl t
+commands-read-back s at next (Write a v) t h = two-back s at next 2 (omega arith) a v 65535 255 (leb-true a 65535 (and-elim-left _ _ h)) (leb-true v 255 (and-elim-right _ _ h)) (omega arith) (omega arith) refl t
+commands-read-back s at next (Wait n) t h = one-back s at next 3 (omega arith) n 65535 (leb-true n 65535 h) (omega arith) refl t
+commands-read-back s at next (Line l) t h = one-back s at next 4 (omega arith) l 1 (leb-true l 1 h) (omega arith) refl t
+commands-read-back s at next (Pins c l) t h = two-back s at next 5 (omega arith) c l 1 1 (leb-true c 1 (and-elim-left _ _ h)) (leb-true l 1 (and-elim-right _ _ h)) (omega arith) (omega arith) refl t
+commands-read-back s at next (Power b) t h = one-back s at next 6 (omega arith) b 15 (leb-true b 15 h) (omega arith) refl t
 commands-read-back s at next Inside t h = none-back s at next 7 (omega arith) refl t
 
 -- ---- accepted commands are encodings
@@ -77,7 +78,7 @@ and-then-with P (Value v next) f p q = p v next refl
 and-then-with P (Refused why) f p q = q why
 
 -- an operand that is accepted is a number that is accepted, and within its limit
-pub operand-within : (m : ℕ) (n : Number) (v next : ℕ) → in-range m n ≡ Value v next → (n ≡ Value v next) × (v ≤ m)
+pub operand-within : (m : ℕ) (n : Number) (v next : ℕ) → limited m n ≡ Value v next → (n ≡ Value v next) × (v ≤ m)
 operand-within m (Value w to) v next e =
     by-cond (λ r. r ≡ Value v next → (Value w to ≡ Value v next) × (v ≤ m)) (leb w m) _ _
     (λ t f. let g : w ≡ v = cc in (f, omega (arith, leb-true w m t)))
@@ -135,16 +136,16 @@ module _ (s : List ℕ) (good : Bytes s) (at mid : ℕ) where
 
   each-kind : EachRow From kinds
   each-kind = (
-    one-encoded 1 65535 (λ a. refl) (λ a h. (h, tt)),
+    one-encoded 1 65535 (λ a. refl) (λ a h. le-leb a _ h),
     (
-      two-encoded 2 65535 255 (λ a b. refl) (λ a b h g. (h, (g, tt))),
+      two-encoded 2 65535 255 (λ a b. refl) (λ a b h g. and-intro (le-leb a _ h) (le-leb b _ g)),
       (
-        one-encoded 3 65535 (λ a. refl) (λ a h. (h, tt)),
+        one-encoded 3 65535 (λ a. refl) (λ a h. le-leb a _ h),
         (
-          one-encoded 4 1 (λ a. refl) (λ a h. (h, tt)),
+          one-encoded 4 1 (λ a. refl) (λ a h. le-leb a _ h),
           (
-            two-encoded 5 1 1 (λ a b. refl) (λ a b h g. (h, (g, tt))),
-            (one-encoded 6 15 (λ a. refl) (λ a h. (h, tt)), (λ t. (t, tt), tt)),
+            two-encoded 5 1 1 (λ a b. refl) (λ a b h g. and-intro (le-leb a _ h) (le-leb b _ g)),
+            (one-encoded 6 15 (λ a. refl) (λ a h. le-leb a _ h), (λ t. (t, refl), tt)),
           ),
         ),
       ),

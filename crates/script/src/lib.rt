@@ -6,9 +6,10 @@ ghost use lib.ListN.{length, drop};
 ghost use Rattle.store.specs.Store.{Stored};
 ghost use Rattle.script.specs.Number.{fault-number, breaks, number-at};
 ghost use Rattle.script.specs.Encode.{encode-in, encode};
-ghost use Rattle.command.specs.Command.{operands-of, command-of, kind};
 ghost use Rattle.script.specs.Command.{operand-at, and-then, command-at};
 ghost use Rattle.script.specs.Write.{encode-all, bytes, as-put, put};
+use command::Command;
+use command::Operands;
 
 // Why a command cannot be read.
 pub enum Fault {
@@ -92,86 +93,6 @@ pub fn read_operand(s: &[u8], at: usize, max: u32) -> Number
     }
 }
 
-// The operands of a kind, by their largest values.
-pub enum Operands {
-    None,
-    One(u32),
-    Two(u32, u32),
-    // The kind is not in the table.
-    Unknown,
-}
-
-// The table of kinds.
-pub fn operands_of(kind: u32) -> Operands
-    ensures { λ r. ⌜ r ≡ operands-of kind ⌝ }
-{
-    match kind {
-        1 => Operands::One(65535),
-        2 => Operands::Two(65535, 255),
-        3 => Operands::One(65535),
-        4 => Operands::One(1),
-        5 => Operands::Two(1, 1),
-        6 => Operands::One(15),
-        7 => Operands::None,
-        _ => Operands::Unknown,
-    }
-}
-
-// A command: kinds 1 to 7 with their operands.
-pub enum Command {
-    // Reads a register.
-    Read { address: u32 },
-    // Writes a register.
-    Write { address: u32, value: u32 },
-    // Lets so many halves pass.
-    Wait { halves: u32 },
-    // Sets the receive line.
-    Line { line: u32 },
-    // Sets clock pin and line.
-    Pins { clock: u32, line: u32 },
-    // Power: 1 module, 2 main clock, 4 subclock, 8 reset mode.
-    Power { bits: u32 },
-    // Time passes inside a half.
-    Inside,
-}
-
-impl Command {
-    pub fn kind(self) -> u8
-        ensures { λ r. ⌜ r ≡ kind self ⌝ }
-    {
-        match self {
-            Command::Read { address: _ } => 1,
-            Command::Write {
-                address: _,
-                value: _,
-            } => 2,
-            Command::Wait { halves: _ } => 3,
-            Command::Line { line: _ } => 4,
-            Command::Pins { clock: _, line: _ } => 5,
-            Command::Power { bits: _ } => 6,
-            Command::Inside => 7,
-        }
-    }
-}
-
-// The command of a kind of the table, from its operands.
-fn command_of(kind: u32, a: u32, b: u32) -> Command
-    ensures { λ r. ⌜ r ≡ command-of kind a b ⌝ }
-{
-    match kind {
-        1 => Command::Read { address: a },
-        2 => Command::Write {
-            address: a,
-            value: b,
-        },
-        3 => Command::Wait { halves: a },
-        4 => Command::Line { line: a },
-        5 => Command::Pins { clock: a, line: b },
-        6 => Command::Power { bits: a },
-        _ => Command::Inside,
-    }
-}
-
 // What reading a command finds.
 pub enum Decoded {
     // The command, and the offset after its last byte.
@@ -201,10 +122,10 @@ pub fn read_command(s: &[u8], at: usize) -> Decoded
     else {
         return refused(first);
     };
-    match operands_of(kind) {
+    match command::operands_of(kind) {
         Operands::Unknown => Decoded::Refused(Fault::Kind),
         Operands::None => Decoded::Command {
-            command: command_of(kind, 0, 0),
+            command: command::command_of(kind, 0, 0),
             next: a_at,
         },
         Operands::One(a_max) => {
@@ -217,7 +138,7 @@ pub fn read_command(s: &[u8], at: usize) -> Decoded
                 return refused(second);
             };
             Decoded::Command {
-                command: command_of(kind, a, 0),
+                command: command::command_of(kind, a, 0),
                 next: end,
             }
         }
@@ -239,7 +160,7 @@ pub fn read_command(s: &[u8], at: usize) -> Decoded
                 return refused(third);
             };
             Decoded::Command {
-                command: command_of(kind, a, b),
+                command: command::command_of(kind, a, b),
                 next: end,
             }
         }

@@ -1,6 +1,6 @@
 use Rattle.branches.proofs.Choose.{choose}
-use Rattle.script.proofs.command_of.Statement.{statement}
-use Rattle.script.proofs.command_of.Tie as tie
+use Rattle.command.proofs.command_of.Statement.{statement}
+use Rattle.command.proofs.command_of.Tie as tie
 
 pub command-of-spec : {M : Type 1} → statement M
 command-of-spec =

@@ -1,6 +1,6 @@
 use Rattle.branches.proofs.Choose.{choose}
-use Rattle.script.proofs.operands_of.Statement.{statement}
-use Rattle.script.proofs.operands_of.Tie as tie
+use Rattle.command.proofs.operands_of.Statement.{statement}
+use Rattle.command.proofs.operands_of.Tie as tie
 
 pub operands-of-spec : {M : Type 1} → statement M
 operands-of-spec =
