@@ -20,6 +20,7 @@ use Rattle.shift.specs.Valid.{character-valid, word-in-place}
 use Rattle.port.specs.Valid.{registers-valid, valid}
 use Rattle.command.specs.declared.Command.{Command}
 use Rattle.command.specs.declared.Command.the-variants.{Read, Write, Wait, Line, Pins, Power, Inside}
+use Rattle.command.specs.Command.{kind}
 use Rattle.port.specs.Calls.{Answer, done, refused, after, called, direct, run}
 
 -- ---- how they are computed
@@ -33,15 +34,6 @@ unfolding computed run fresh
 after-calls cs = run fresh cs
 
 -- ---- the printed run
-abbrev pub kind : Command → ℕ
-kind (Read a) = 1
-kind (Write a v) = 2
-kind (Wait n) = 3
-kind (Line line) = 4
-kind (Pins clock line) = 5
-kind (Power b) = 6
-kind Inside = 7
-
 abbrev pub answer-value : Answer → ℕ
 answer-value (done v q) = v
 answer-value (refused n offset q) = 0

@@ -1,4 +1,4 @@
-// SCI3 of the H8/38602R as a value: registers, sender, receiver and clock of sci.rs (document 01). Its `pins` and `interrupt` are in the crate signals.
+// SCI3 of the H8/38602R as a value: registers, sender, receiver and clock of sci.rs (document 01). Its `pins` and `interrupt` are in the crate pins.
 ghost use mathlib.Core.Path.{_≡_};
 ghost use mathlib.Core.Bool.{true, false, cond};
 ghost use Prim.Native.Nat.{_≤_, _<_, _+_};
@@ -20,9 +20,9 @@ ghost use Rattle.port.specs.Power.{fresh, reset-registers, reset, set-po
 ghost use Rattle.port.specs.Pins.{receive-input, external-edge};
 ghost use Rattle.port.specs.Valid.{limit, registers-valid, valid};
 ghost use Rattle.port.specs.Calls.{done, refuse, direct, number, answer};
-ghost use Rattle.command.specs.declared.Command.the-variants.{Read, Write, Wait, Line, Pins, Power, Inside};
 ghost use Rattle.shift.specs.Ready.{Bounded, Placed, Shiftable, PlacedIn, LoadedBounded, Sendable, in-data, at-parity};
 ghost use Rattle.port.specs.Ready.{Ready};
+use command::Command;
 use frame::Format;
 use shift::Character;
 use shift::Due;
@@ -1433,7 +1433,7 @@ impl Port {
 
     // Kind 1: reads a register.
     pub fn read(self, a: u32) -> Called
-        ensures { λ r. ⌜ answer r ≡ direct (Read a) self ⌝ }
+        ensures { λ r. ⌜ answer r ≡ direct (Command.Read a) self ⌝ }
     {
         if self.valid() {
             if a > 65535 {
@@ -1449,7 +1449,7 @@ impl Port {
 
     // Kind 2: writes a register.
     pub fn write(self, a: u32, v: u32) -> Called
-        ensures { λ r. ⌜ answer r ≡ direct (Write a v) self ⌝ }
+        ensures { λ r. ⌜ answer r ≡ direct (Command.Write a v) self ⌝ }
     {
         if self.valid() {
             if (a <= 65535) & (v <= 255) {
@@ -1468,7 +1468,7 @@ impl Port {
 
     // Kind 3: lets n halves pass.
     pub fn wait(self, n: u32) -> Called
-        ensures { λ r. ⌜ answer r ≡ direct (Wait n) self ⌝ }
+        ensures { λ r. ⌜ answer r ≡ direct (Command.Wait n) self ⌝ }
     {
         if self.valid() {
             if n > 65535 {
@@ -1489,7 +1489,7 @@ impl Port {
 
     // Kind 4: sets the receive line.
     pub fn set_line(self, line: u32) -> Called
-        ensures { λ r. ⌜ answer r ≡ direct (Line line) self ⌝ }
+        ensures { λ r. ⌜ answer r ≡ direct (Command.Line line) self ⌝ }
     {
         if self.valid() {
             if line > 1 {
@@ -1502,7 +1502,7 @@ impl Port {
 
     // Kind 5: sets clock pin and receive line.
     pub fn input_pins(self, clock: u32, line: u32) -> Called
-        ensures { λ r. ⌜ answer r ≡ direct (Pins clock line) self ⌝ }
+        ensures { λ r. ⌜ answer r ≡ direct (Command.Pins clock line) self ⌝ }
     {
         if self.valid() {
             if (clock <= 1) & (line <= 1) {
@@ -1524,7 +1524,7 @@ impl Port {
 
     // Kind 6: power. Bits: 1 module, 2 main clock, 4 subclock, 8 reset mode.
     pub fn set_power(self, bits: u32) -> Called
-        ensures { λ r. ⌜ answer r ≡ direct (Power bits) self ⌝ }
+        ensures { λ r. ⌜ answer r ≡ direct (Command.Power bits) self ⌝ }
     {
         if self.valid() {
             if bits > 15 {
@@ -1538,7 +1538,7 @@ impl Port {
 
     // Kind 7: time passes inside a half.
     pub fn pass_inside(self) -> Called
-        ensures { λ r. ⌜ answer r ≡ direct Inside self ⌝ }
+        ensures { λ r. ⌜ answer r ≡ direct Command.Inside self ⌝ }
     {
         if self.valid() {
             return self.uncounted(1).done(0);

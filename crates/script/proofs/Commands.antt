@@ -62,10 +62,10 @@ module _ (s : List ℕ) (at next k : ℕ) (small : k ≤ largest) where
 
 pub commands-read-back : CommandsReadBack
 commands-read-back s at next (Read a) t h = one-back s at next 1 (omega arith) a 65535 (leb-true a 65535 h) (omega arith) refl t
-commands-read-back s at next (Write a v) t h = two-back s at next 2 (omega arith) a v 65535 255 (leb-true a 65535 (and-elim-left _ _ h)) (leb-true v 255 (and-elim-right _ _ h)) (omega arith) (omega arith) refl t
+commands-read-back s at next (Write a v) t h = two-back s at next 2 (omega arith) a v 65535 255 (leb-true a 65535 (and-elim-left (leb a 65535) (leb v 255) h)) (leb-true v 255 (and-elim-right (leb a 65535) (leb v 255) h)) (omega arith) (omega arith) refl t
 commands-read-back s at next (Wait n) t h = one-back s at next 3 (omega arith) n 65535 (leb-true n 65535 h) (omega arith) refl t
 commands-read-back s at next (Line l) t h = one-back s at next 4 (omega arith) l 1 (leb-true l 1 h) (omega arith) refl t
-commands-read-back s at next (Pins c l) t h = two-back s at next 5 (omega arith) c l 1 1 (leb-true c 1 (and-elim-left _ _ h)) (leb-true l 1 (and-elim-right _ _ h)) (omega arith) (omega arith) refl t
+commands-read-back s at next (Pins c l) t h = two-back s at next 5 (omega arith) c l 1 1 (leb-true c 1 (and-elim-left (leb c 1) (leb l 1) h)) (leb-true l 1 (and-elim-right (leb c 1) (leb l 1) h)) (omega arith) (omega arith) refl t
 commands-read-back s at next (Power b) t h = one-back s at next 6 (omega arith) b 15 (leb-true b 15 h) (omega arith) refl t
 commands-read-back s at next Inside t h = none-back s at next 7 (omega arith) refl t
 
