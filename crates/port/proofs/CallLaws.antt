@@ -12,12 +12,16 @@ use Rattle.frame.proofs.Choose.{cond-t, cond-f}
 use Rattle.frame.proofs.Truth.{and-right}
 use Rattle.port.specs.declared.Port.{Port}
 use Rattle.port.specs.Baud.{external, running, internal, edge-counts}
+use Rattle.frame.specs.Frame.{has}
+use Rattle.port.specs.Registers.{handles, peek, read}
+use Rattle.port.specs.Power.{set-power}
+use Rattle.port.specs.Pins.{receive-input}
 use Rattle.port.specs.Valid.{limit, valid}
 use Rattle.port.specs.Half.{halves, uncounted}
 use Rattle.command.specs.declared.Command.{Command}
-use Rattle.command.specs.declared.Command.the-variants.{Wait}
-use Rattle.port.specs.Calls.{Answer, done, refuse, called, direct}
-use Rattle.port.proofs.Checked.{flag-ready}
+use Rattle.command.specs.declared.Command.the-variants.{Read, Wait, Line, Power}
+use Rattle.port.specs.Calls.{Answer, done, refuse, bit, called, direct}
+use Rattle.port.proofs.Checked.{valid-ready}
 
 pub done-eq : (z : Answer) (v w : ℕ) (p q : Port) → z ≡ done v p → v ≡ w → p ≡ q → z ≡ done w q
 done-eq z v w p q e h k = e ∙ ap₂ done h k
@@ -27,11 +31,11 @@ pub value-fits : (a v : ℕ) → (leb a 65535 && leb v 255) ≡ true → Fits w8
 value-fits a v e = record { fits = omega (arith, leb-true v 255 (and-right (leb a 65535) (leb v 255) e)) }
 
 -- the half count that test 4 looks at
-pub sum-fits : (r : Bool) (p : Port) (n : ℕ) → r ≡ valid p → r ≡ true → n ≤ 65535 → Fits w32 (p .half + n)
-sum-fits r p n e t h = record { fits = omega (arith, flag-ready r p e t .half≤) }
+pub sum-fits : (p : Port) (n : ℕ) → valid p ≡ true → n ≤ 65535 → Fits w32 (p .half + n)
+sum-fits p n e h = record { fits = omega (arith, valid-ready p e .half≤) }
 
-pub flag-half : (r : Bool) (p : Port) → r ≡ valid p → r ≡ true → p .half ≤ limit
-flag-half r p e t = flag-ready r p e t .half≤
+pub valid-half : (p : Port) → valid p ≡ true → p .half ≤ limit
+valid-half p e = valid-ready p e .half≤
 
 -- halves pass on the internal clock
 pub internal-external : (p : Port) → internal p ≡ true → external p ≡ false
@@ -59,33 +63,54 @@ pins-set z a c g x l r q p t h k e i =
 pub pins-same : (z a : Answer) (c x : Bool) (q p : Port) → c ≡ false → z ≡ done 0 p → z ≡ cond (c && x) a (done 0 (cond c q p))
 pins-same z a c x q p t e = cond-f (c && x) a _ z (ap (λ (b : Bool). b && x) t) (e ∙ ap (done 0) (cond-f c q p p t refl))
 
+pub tested : (v : Bool) (p : Port) → v ≡ valid p → v ≡ true → valid p ≡ true
+tested v p e t = sym e ∙ t
+
 -- ---- what a call answers, by the tests on the way
-module _ (z : Answer) (p : Port) (v : Bool) (ev : v ≡ valid p) where
-  pub refused-by-8 : (k : Command) → v ≡ false → z ≡ refuse 8 p → z ≡ direct k p
+module _ (z : Answer) (p : Port) where
+  pub refused-by-8 : (k : Command) (v : Bool) → v ≡ valid p → v ≡ false → z ≡ refuse 8 p → z ≡ direct k p
   unfolding direct
-  refused-by-8 k f e = cond-f (valid p) _ _ z (sym ev ∙ f) e
+  refused-by-8 k v ev f e = cond-f (valid p) _ _ z (sym ev ∙ f) e
 
-  taken : (k : Command) → v ≡ true → z ≡ called k p → z ≡ direct k p
+  pub taken : (k : Command) (v : Bool) → v ≡ valid p → v ≡ true → z ≡ called k p → z ≡ direct k p
   unfolding direct
-  taken k t e = cond-t (valid p) _ _ z (sym ev ∙ t) e
+  taken k v ev t e = cond-t (valid p) _ _ z (sym ev ∙ t) e
 
-  module _ (n : ℕ) (t : v ≡ true) where
-    pub wait-too-long : 65535 < n → z ≡ refuse 2 p → z ≡ direct (Wait n) p
+  -- a read, of one of the nine and of another; a line and a power command that are accepted
+  pub read-done : (a v : ℕ) (h : Bool) (q : Port) → a ≤ 65535 → h ≡ handles a → h ≡ true → v ≡ peek p a → q ≡ read a p → z ≡ done v q → z ≡ called (Read a) p
+  unfolding called
+  read-done a v h q l eh t ev eq e =
+      cond-t (leb a 65535) _ _ z (le-leb a 65535 l) (cond-t (handles a) _ _ z (sym eh ∙ t) (done-eq z v (peek p a) q (read a p) e ev eq))
+
+  pub read-elsewhere : (a : ℕ) (h : Bool) → a ≤ 65535 → h ≡ handles a → h ≡ false → z ≡ refuse 1 p → z ≡ called (Read a) p
+  unfolding called
+  read-elsewhere a h l eh f e = cond-t (leb a 65535) _ _ z (le-leb a 65535 l) (cond-f (handles a) _ _ z (sym eh ∙ f) e)
+
+  pub line-done : (n : ℕ) (q : Port) → n ≤ 1 → q ≡ receive-input (bit n) p → z ≡ done 0 q → z ≡ called (Line n) p
+  unfolding called
+  line-done n q l eq e = cond-t (leb n 1) _ _ z (le-leb n 1 l) (e ∙ ap (done 0) eq)
+
+  pub power-done : (b : ℕ) (q : Port) → b ≤ 15 → q ≡ set-power (has b 1) (has b 2) (has b 4) (has b 8) p → z ≡ done 0 q → z ≡ called (Power b) p
+  unfolding called
+  power-done b q l eq e = cond-t (leb b 15) _ _ z (le-leb b 15 l) (e ∙ ap (done 0) eq)
+
+  module _ (n : ℕ) where
+    pub wait-too-long : 65535 < n → z ≡ refuse 2 p → z ≡ called (Wait n) p
     unfolding called
-    wait-too-long l e = taken (Wait n) t (cond-f (leb n 65535) _ _ z (lt-leb n 65535 l) e)
+    wait-too-long l e = cond-f (leb n 65535) _ _ z (lt-leb n 65535 l) e
 
     module _ (l : n ≤ 65535) (r x : Bool) (er : r ≡ running p) (ex : x ≡ external p) where
-      counts : (b : Bool) → (r && not x) ≡ b → z ≡ cond b (cond (leb (p .half + n) limit) (done 0 (halves n p)) (refuse 4 p)) (done 0 (uncounted n p)) → z ≡ direct (Wait n) p
+      counts : (b : Bool) → (r && not x) ≡ b → z ≡ cond b (cond (leb (p .half + n) limit) (done 0 (halves n p)) (refuse 4 p)) (done 0 (uncounted n p)) → z ≡ called (Wait n) p
       unfolding called
       counts b h e =
-          taken (Wait n) t (cond-t (leb n 65535) _ _ z (le-leb n 65535 l)
-          (e ∙ sym (ap (λ (i : Bool). cond i (cond (leb (p .half + n) limit) (done 0 (halves n p)) (refuse 4 p)) (done 0 (uncounted n p))) (internal-is r x b p er ex h))))
+          cond-t (leb n 65535) _ _ z (le-leb n 65535 l)
+          (e ∙ sym (ap (λ (i : Bool). cond i (cond (leb (p .half + n) limit) (done 0 (halves n p)) (refuse 4 p)) (done 0 (uncounted n p))) (internal-is r x b p er ex h)))
 
-      pub wait-counted : (q : Port) → (r && not x) ≡ true → p .half + n ≤ limit → q ≡ halves n p → z ≡ done 0 q → z ≡ direct (Wait n) p
+      pub wait-counted : (q : Port) → (r && not x) ≡ true → p .half + n ≤ limit → q ≡ halves n p → z ≡ done 0 q → z ≡ called (Wait n) p
       wait-counted q h m k e = counts true h (cond-t (leb (p .half + n) limit) _ _ z (le-leb (p .half + n) limit m) (e ∙ ap (done 0) k))
 
-      pub wait-past-limit : (r && not x) ≡ true → limit < p .half + n → z ≡ refuse 4 p → z ≡ direct (Wait n) p
+      pub wait-past-limit : (r && not x) ≡ true → limit < p .half + n → z ≡ refuse 4 p → z ≡ called (Wait n) p
       wait-past-limit h m e = counts true h (cond-f (leb (p .half + n) limit) _ _ z (lt-leb (p .half + n) limit m) e)
 
-      pub wait-uncounted : (q : Port) → (r && not x) ≡ false → q ≡ uncounted n p → z ≡ done 0 q → z ≡ direct (Wait n) p
+      pub wait-uncounted : (q : Port) → (r && not x) ≡ false → q ≡ uncounted n p → z ≡ done 0 q → z ≡ called (Wait n) p
       wait-uncounted q h k e = counts false h (e ∙ ap (done 0) k)

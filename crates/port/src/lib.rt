@@ -19,7 +19,7 @@ ghost use Rattle.port.specs.Registers.{handles, peek, read, sender-off, 
 ghost use Rattle.port.specs.Power.{fresh, reset-registers, reset, set-power};
 ghost use Rattle.port.specs.Pins.{receive-input, external-edge};
 ghost use Rattle.port.specs.Valid.{limit, registers-valid, valid};
-ghost use Rattle.port.specs.Calls.{done, refuse, direct, number, answer};
+ghost use Rattle.port.specs.Calls.{done, refuse, called, direct, number, answer};
 ghost use Rattle.shift.specs.Ready.{Bounded, Placed, Shiftable, PlacedIn, LoadedBounded, Sendable, in-data, at-parity};
 ghost use Rattle.port.specs.Ready.{Ready};
 use command::Command;
@@ -1431,18 +1431,118 @@ impl Port {
         }
     }
 
+    // ---- the calls on a port that has passed the field test. They ask that of their caller: the calls below test it, and so does whoever makes many calls on
+    // one port and tests it once, since every accepted call keeps it.
+
+    // Kind 1: reads a register.
+    pub fn read_valid(self, a: u32) -> Called
+        requires { ⌜ valid self ≡ true ⌝ }
+        ensures { λ r. ⌜ answer r ≡ called (Command.Read a) self ⌝ }
+    {
+        if a > 65535 {
+            return self.refuse(Refusal::Operand);
+        }
+        if handles(a) {
+            return self.after_read(a).done(self.peek(a));
+        }
+        self.refuse(Refusal::Address)
+    }
+
+    // Kind 2: writes a register.
+    pub fn write_valid(self, a: u32, v: u32) -> Called
+        requires { ⌜ valid self ≡ true ⌝ }
+        ensures { λ r. ⌜ answer r ≡ called (Command.Write a v) self ⌝ }
+    {
+        if (a <= 65535) & (v <= 255) {
+            if handles(a) {
+                if (a == 0xffa7) & (v >= 128) {
+                    return self.refuse(Refusal::Infrared);
+                }
+                return self.written(a, v as u8).done(0);
+            }
+            return self.refuse(Refusal::Address);
+        }
+        self.refuse(Refusal::Operand)
+    }
+
+    // Kind 3: lets n halves pass.
+    pub fn wait_valid(self, n: u32) -> Called
+        requires { ⌜ valid self ≡ true ⌝ }
+        ensures { λ r. ⌜ answer r ≡ called (Command.Wait n) self ⌝ }
+    {
+        if n > 65535 {
+            return self.refuse(Refusal::Operand);
+        }
+        let running = self.running();
+        let external = self.external();
+        if running & !external {
+            if self.half + n <= LIMIT {
+                return self.halves(n).done(0);
+            }
+            return self.refuse(Refusal::Count);
+        }
+        self.uncounted(n).done(0)
+    }
+
+    // Kind 4: sets the receive line.
+    pub fn set_line_valid(self, line: u32) -> Called
+        requires { ⌜ valid self ≡ true ⌝ }
+        ensures { λ r. ⌜ answer r ≡ called (Command.Line line) self ⌝ }
+    {
+        if line > 1 {
+            return self.refuse(Refusal::Operand);
+        }
+        self.receive_input(line != 0).done(0)
+    }
+
+    // Kind 5: sets clock pin and receive line.
+    pub fn input_pins_valid(self, clock: u32, line: u32) -> Called
+        requires { ⌜ valid self ≡ true ⌝ }
+        ensures { λ r. ⌜ answer r ≡ called (Command.Pins clock line) self ⌝ }
+    {
+        if (clock <= 1) & (line <= 1) {
+            let clock = clock != 0;
+            let line = line != 0;
+            if (line != self.input) | (clock != self.input_clock) {
+                let counts = self.edge_counts(clock);
+                if counts & (self.half >= LIMIT) {
+                    return self.refuse(Refusal::Count);
+                }
+                return self.with_pins(clock, line).done(0);
+            }
+            return self.done(0);
+        }
+        self.refuse(Refusal::Operand)
+    }
+
+    // Kind 6: power. Bits: 1 module, 2 main clock, 4 subclock, 8 reset mode.
+    pub fn set_power_valid(self, bits: u32) -> Called
+        requires { ⌜ valid self ≡ true ⌝ }
+        ensures { λ r. ⌜ answer r ≡ called (Command.Power bits) self ⌝ }
+    {
+        if bits > 15 {
+            return self.refuse(Refusal::Operand);
+        }
+        self.powered(bits & 1 != 0, bits & 2 != 0, bits & 4 != 0, bits & 8 != 0)
+            .done(0)
+    }
+
+    // Kind 7: time passes inside a half.
+    pub fn pass_inside_valid(self) -> Called
+        requires { ⌜ valid self ≡ true ⌝ }
+        ensures { λ r. ⌜ answer r ≡ called Command.Inside self ⌝ }
+    {
+        self.uncounted(1).done(0)
+    }
+
+    // ---- the direct calls, for any port
+
     // Kind 1: reads a register.
     pub fn read(self, a: u32) -> Called
         ensures { λ r. ⌜ answer r ≡ direct (Command.Read a) self ⌝ }
     {
         if self.valid() {
-            if a > 65535 {
-                return self.refuse(Refusal::Operand);
-            }
-            if handles(a) {
-                return self.after_read(a).done(self.peek(a));
-            }
-            return self.refuse(Refusal::Address);
+            return self.read_valid(a);
         }
         self.refuse(Refusal::State)
     }
@@ -1452,16 +1552,7 @@ impl Port {
         ensures { λ r. ⌜ answer r ≡ direct (Command.Write a v) self ⌝ }
     {
         if self.valid() {
-            if (a <= 65535) & (v <= 255) {
-                if handles(a) {
-                    if (a == 0xffa7) & (v >= 128) {
-                        return self.refuse(Refusal::Infrared);
-                    }
-                    return self.written(a, v as u8).done(0);
-                }
-                return self.refuse(Refusal::Address);
-            }
-            return self.refuse(Refusal::Operand);
+            return self.write_valid(a, v);
         }
         self.refuse(Refusal::State)
     }
@@ -1471,18 +1562,7 @@ impl Port {
         ensures { λ r. ⌜ answer r ≡ direct (Command.Wait n) self ⌝ }
     {
         if self.valid() {
-            if n > 65535 {
-                return self.refuse(Refusal::Operand);
-            }
-            let running = self.running();
-            let external = self.external();
-            if running & !external {
-                if self.half + n <= LIMIT {
-                    return self.halves(n).done(0);
-                }
-                return self.refuse(Refusal::Count);
-            }
-            return self.uncounted(n).done(0);
+            return self.wait_valid(n);
         }
         self.refuse(Refusal::State)
     }
@@ -1492,10 +1572,7 @@ impl Port {
         ensures { λ r. ⌜ answer r ≡ direct (Command.Line line) self ⌝ }
     {
         if self.valid() {
-            if line > 1 {
-                return self.refuse(Refusal::Operand);
-            }
-            return self.receive_input(line != 0).done(0);
+            return self.set_line_valid(line);
         }
         self.refuse(Refusal::State)
     }
@@ -1505,33 +1582,17 @@ impl Port {
         ensures { λ r. ⌜ answer r ≡ direct (Command.Pins clock line) self ⌝ }
     {
         if self.valid() {
-            if (clock <= 1) & (line <= 1) {
-                let clock = clock != 0;
-                let line = line != 0;
-                if (line != self.input) | (clock != self.input_clock) {
-                    let counts = self.edge_counts(clock);
-                    if counts & (self.half >= LIMIT) {
-                        return self.refuse(Refusal::Count);
-                    }
-                    return self.with_pins(clock, line).done(0);
-                }
-                return self.done(0);
-            }
-            return self.refuse(Refusal::Operand);
+            return self.input_pins_valid(clock, line);
         }
         self.refuse(Refusal::State)
     }
 
-    // Kind 6: power. Bits: 1 module, 2 main clock, 4 subclock, 8 reset mode.
+    // Kind 6: power.
     pub fn set_power(self, bits: u32) -> Called
         ensures { λ r. ⌜ answer r ≡ direct (Command.Power bits) self ⌝ }
     {
         if self.valid() {
-            if bits > 15 {
-                return self.refuse(Refusal::Operand);
-            }
-            return self.powered(bits & 1 != 0, bits & 2 != 0, bits & 4 != 0, bits & 8 != 0)
-                .done(0);
+            return self.set_power_valid(bits);
         }
         self.refuse(Refusal::State)
     }
@@ -1541,7 +1602,7 @@ impl Port {
         ensures { λ r. ⌜ answer r ≡ direct Command.Inside self ⌝ }
     {
         if self.valid() {
-            return self.uncounted(1).done(0);
+            return self.pass_inside_valid();
         }
         self.refuse(Refusal::State)
     }

@@ -1,5 +1,4 @@
-use Rattle.port.proofs.CallLaws.{not-external, refused-by-8, sum-fits, wait-counted, wait-past-limit, wait-too-long, wait-uncounted}
-use Rattle.port.proofs.Checked.{flag-ready}
+use Rattle.port.proofs.CallLaws.{refused-by-8, taken, tested}
 use borrow.Author.Needs.{needs}
 use Rattle.port.proofs.Port.wait.Statement.{statement}
 use Rattle.port.proofs.Port.wait.Tie as tie
@@ -9,18 +8,7 @@ wait-spec =
     tie.close
     (tie.spec
     (λ c κs. search needs)
-    (λ c κs. search needs)
-    (λ c. search (wait-too-long, needs) depth 10)
-    (λ c κs. search needs)
-    (λ c κs. search needs)
-    (λ c. search (sum-fits, needs))
-    (λ c κs. search (flag-ready, not-external, needs) depth 10)
-    (λ c κs. search needs)
-    (λ c. search (wait-counted, needs) depth 10)
-    (λ c κs. search needs)
-    (λ c. search (wait-past-limit, needs) depth 10)
-    (λ c κs. search needs)
-    (λ c κs. search needs)
-    (λ c. search (wait-uncounted, needs) depth 10)
+    (λ c κs. search (tested, needs) depth 10)
+    (λ c. search (taken, needs) depth 10)
     (λ c κs. search needs)
     (λ c. search (refused-by-8, needs) depth 10))

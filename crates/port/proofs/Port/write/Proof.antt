@@ -1,27 +1,14 @@
-use Rattle.frame.proofs.Choose.{cond-t, cond-f, flag-t, flag-f, orders}
-use Rattle.port.proofs.CallLaws.{done-eq, refused-by-8, value-fits}
-use Rattle.port.proofs.Checked.{flag-ready}
-use Rattle.port.specs.Calls.{called, direct}
+use Rattle.port.proofs.CallLaws.{refused-by-8, taken, tested}
 use borrow.Author.Needs.{needs}
 use Rattle.port.proofs.Port.write.Statement.{statement}
 use Rattle.port.proofs.Port.write.Tie as tie
 
 pub write-spec : {M : Type 1} → statement M
-unfolding direct called
 write-spec =
     tie.close
     (tie.spec
     (λ c κs. search needs)
-    (λ c κs. search needs)
-    (λ c κs. search needs)
-    (λ c. search (orders, cond-t, cond-f, flag-t, flag-f, needs) depth 10)
-    (λ c. search (value-fits, needs))
-    (λ c κs. search (flag-ready, needs) depth 10)
-    (λ c κs. search needs)
-    (λ c. search (done-eq, orders, cond-t, cond-f, flag-t, flag-f, needs) depth 10)
-    (λ c κs. search needs)
-    (λ c. search (orders, cond-t, cond-f, flag-t, flag-f, needs) depth 10)
-    (λ c κs. search needs)
-    (λ c. search (orders, cond-t, cond-f, flag-t, flag-f, needs) depth 10)
+    (λ c κs. search (tested, needs) depth 10)
+    (λ c. search (taken, needs) depth 10)
     (λ c κs. search needs)
     (λ c. search (refused-by-8, needs) depth 10))
