@@ -10,7 +10,7 @@ use Rattle.command.specs.Command.{in-range}
 use Rattle.frame.specs.Frame.{has}
 use Rattle.port.specs.declared.Port.{Port}
 use Rattle.port.specs.declared.Refusal.{Refusal}
-use Rattle.port.specs.declared.Refusal.the-variants.{Address, Operand, Infrared, Count, Short, Number, Kind, State, Full}
+use Rattle.port.specs.declared.Refusal.the-variants.{Address, Operand, Infrared, Count, State}
 use Rattle.port.specs.declared.Outcome.{Outcome}
 use Rattle.port.specs.declared.Outcome.the-variants.{Done, Refused}
 use Rattle.port.specs.declared.Called.{Called}
@@ -39,22 +39,25 @@ refuse n p = refused n 0 p
 abbrev pub bit : ℕ → Bool
 bit n = not (eqb n 0)
 
--- the tests 1, 3 and 4, and the call, for operands in range
-abbrev pub ranged : Command → Port → Answer
-ranged (Read a) p = cond (handles a) (done (peek p a) (read a p)) (refuse 1 p)
-ranged (Write a v) p = cond (handles a) (cond (eqb a 0xffa7 && leb 128 v) (refuse 3 p) (done 0 (write a v p))) (refuse 1 p)
-ranged (Wait n) p =
-    cond (internal p) (cond (leb (p .half + n) limit) (done 0 (halves n p)) (refuse 4 p)) (done 0 (uncounted n p))
-ranged (Line line) p = done 0 (receive-input (bit line) p)
-ranged (Pins clock line) p =
-    cond (pins-change (bit clock) (bit line) p && (edge-counts (bit clock) p && leb limit (p .half))) (refuse 4 p)
+-- the tests 1, 3 and 4, and the call, for operands in range; the greatest half count is an argument
+abbrev pub ranged : ℕ → Command → Port → Answer
+ranged most (Read a) p = cond (handles a) (done (peek p a) (read a p)) (refuse 1 p)
+ranged most (Write a v) p = cond (handles a) (cond (eqb a 0xffa7 && leb 128 v) (refuse 3 p) (done 0 (write a v p))) (refuse 1 p)
+ranged most (Wait n) p =
+    cond (internal p) (cond (leb (p .half + n) most) (done 0 (halves n p)) (refuse 4 p)) (done 0 (uncounted n p))
+ranged most (Line line) p = done 0 (receive-input (bit line) p)
+ranged most (Pins clock line) p =
+    cond (pins-change (bit clock) (bit line) p && (edge-counts (bit clock) p && leb most (p .half))) (refuse 4 p)
     (done 0 (input-pins (bit clock) (bit line) p))
-ranged (Power b) p = done 0 (set-power (has b 1) (has b 2) (has b 4) (has b 8) p)
-ranged Inside p = done 0 (inside p)
+ranged most (Power b) p = done 0 (set-power (has b 1) (has b 2) (has b 4) (has b 8) p)
+ranged most Inside p = done 0 (inside p)
 
 -- test 2 first, by the table of kinds
+abbrev pub called-within : ℕ → Command → Port → Answer
+called-within most c p = cond (in-range c) (ranged most c p) (refuse 2 p)
+
 unfoldable pub called : Command → Port → Answer
-called c p = cond (in-range c) (ranged c p) (refuse 2 p)
+called c p = called-within limit c p
 
 -- a direct call: test 8 first
 unfoldable pub direct : Command → Port → Answer
@@ -71,11 +74,7 @@ number Address = 1
 number Operand = 2
 number Infrared = 3
 number Count = 4
-number Short = 5
-number Number = 6
-number Kind = 7
 number State = 8
-number Full = 9
 
 abbrev pub answer-of : Outcome → Port → Answer
 answer-of (Done v) p = done v p

@@ -18,8 +18,12 @@ registers-valid p =
     eqb (bitOr (bitAnd (p .spcr) 0x13) 0xc0) (p .spcr) && (not (has (p .scr) 8) && (eqb (bitAnd (p .semr) 8) (p .semr)
     && (eqb (bitAnd (p .ircr) 0x70) (p .ircr) && (not (has (p .ssr) 3) && not (has (p .seen) 3)))))
 
--- "the half where the present cell began at most the half count"; "for the clocked edge either way"
-unfoldable pub valid : Port → Bool
-valid p =
-    leb (p .half) limit && (registers-valid p && (tx-valid (p .tx) (p .half) && (rx-valid (p .rx) (p .half)
+-- the whole test, with the greatest half count as an argument. "the half where the present cell began at most the half count"; "for the clocked edge
+-- either way"
+abbrev pub valid-within : ℕ → Port → Bool
+valid-within most p =
+    leb (p .half) most && (registers-valid p && (tx-valid (p .tx) (p .half) && (rx-valid (p .rx) (p .half)
     && (leb (p .«bit_start») (p .half) && due-either (p .«sync_next») (p .half)))))
+
+unfoldable pub valid : Port → Bool
+valid p = valid-within limit p

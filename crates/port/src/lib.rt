@@ -94,17 +94,18 @@ pub struct Pins {
     pub receive: bool,
 }
 
-// Why a call or a command is refused; a direct call meets Address to Count and State. `number` has document 01's numbers.
+// Why a call is refused. `number` has document 01's numbers.
 pub enum Refusal {
+    // The address is none of the nine.
     Address,
+    // An operand is above its range.
     Operand,
+    // A write to IRCR with bit 7 set.
     Infrared,
+    // An edge to be counted would take the half count past its limit.
     Count,
-    Short,
-    Number,
-    Kind,
+    // The state fails its field test.
     State,
-    Full,
 }
 
 pub enum Outcome {
@@ -1402,11 +1403,7 @@ impl Refusal {
             Refusal::Operand => 2,
             Refusal::Infrared => 3,
             Refusal::Count => 4,
-            Refusal::Short => 5,
-            Refusal::Number => 6,
-            Refusal::Kind => 7,
             Refusal::State => 8,
-            Refusal::Full => 9,
         }
     }
 }
