@@ -8,7 +8,7 @@ use shift::Rx;
 use shift::Tx;
 
 fn print_byte(n: u8) {
-    let digits = [report::hex_digit(n / 16), report::hex_digit(n % 16)];
+    let digits = [text::hex_digit(n / 16), text::hex_digit(n % 16)];
     io::write_all(1, &digits);
 }
 

@@ -61,7 +61,7 @@ fn with_numbers(sum: u64, numbers: &[u64]) -> u64 {
 }
 
 fn low_digit(n: u64) -> u8 {
-    report::hex_digit((n % 16) as u8)
+    text::hex_digit((n % 16) as u8)
 }
 
 fn print_sum(sum: u64) {

@@ -23,9 +23,10 @@ use Rattle.player.specs.Play.{Run, record-length, end-number, end-offset, ran, 
 use Rattle.player.proofs.Used.{within}
 use Rattle.store.specs.Store.{Stored}
 use Rattle.store.proofs.Laws.{both-stored, room-after}
-use Rattle.report.specs.Lines.{record-line, end-line, refused-line, printed, line}
+use Rattle.text.specs.Text.{printed, in-front}
+use Rattle.report.specs.Lines.{record-line, end-line, refused-line}
 use Rattle.report.specs.Printout.{first-line, record-lines, last-line, longest, log-length, too-long, printout}
-use Rattle.report.proofs.Laws.{at-front}
+use Rattle.text.proofs.Laws.{at-front}
 
 -- ---- lines
 
@@ -87,7 +88,7 @@ module _ (log : List ℕ) (n : ℕ) {end : ℕ} {before now-is : List ℕ} (so-f
 -- ---- the whole text
 
 pub too-long-text : (script : List ℕ) {before after : List ℕ} {to : ℕ} → longest < length script → Stored 0 too-long before to after →
-    printed to after ≡ line (printout script) before
+    printed to after ≡ in-front (printout script) before
 unfolding printout
 too-long-text script h s = rw (lt-ltb longest (length script) h) (at-front s)
 
@@ -105,6 +106,6 @@ module _ (script log : List ℕ) (x : Played) (run : ran x log ≡ play fresh sc
   pub run-printed : {before between after : List ℕ} {end to : ℕ} → length script ≤ longest →
       Stored 0 (record-lines (x .used / record-length) log) before end between →
       Stored end (last-line (end-number (x .end)) (end-offset (x .end)) (x .port .half)) between to after →
-      printed to after ≡ line (printout script) before
+      printed to after ≡ in-front (printout script) before
   unfolding printout
   run-printed h s t = rw (le-ltb longest (length script) h, ← run) (at-front (both-stored (omega arith) s t))

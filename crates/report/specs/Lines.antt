@@ -5,14 +5,11 @@
 use Prim.Native.Nat.{ℕ, _+_, _/_, _%_}
 use mathlib.Core.Bool.{cond}
 use mathlib.Core.List.{List, [], _∷_, _++_}
-use lib.ListN.{length, drop}
-use lib.Dec.{ltb, eqb}
-use Rattle.report.specs.Decimal.{decimal}
+use lib.Dec.{eqb}
+use Rattle.text.specs.Decimal.{decimal}
+use Rattle.text.specs.Text.{hex-digit}
 
--- 48 is `0`, 65 is `A`, 63 is `?`
-abbrev pub hex-digit : ℕ → ℕ
-hex-digit n = cond (ltb n 10) (48 + n) (cond (ltb n 16) (55 + n) 63)
-
+-- 48 is `0`, 63 is `?`
 abbrev pub bit : ℕ → ℕ
 bit n = cond (eqb n 0) 48 (cond (eqb n 1) 49 63)
 
@@ -38,15 +35,3 @@ abbrev pub refused-line : ℕ → ℕ → List ℕ
 refused-line number offset =
     (114 ∷ 101 ∷ 102 ∷ 117 ∷ 115 ∷ 101 ∷ 100 ∷ 32 ∷ [])
     ++ (decimal number ++ ((32 ∷ 97 ∷ 116 ∷ 32 ∷ []) ++ (decimal offset ++ (10 ∷ []))))
-
--- what printing a line answers and leaves: the length of the line, and the whole buffer
-pub record Printed : Type 0 where
-  pub answer : ℕ
-  pub buffer : List ℕ
-
-abbrev pub printed : ℕ → List ℕ → Printed
-printed n l = record { answer = n; buffer = l }
-
--- a line at the front of a buffer; every byte after it stays as it was
-abbrev pub line : List ℕ → List ℕ → Printed
-line text buf = printed (length text) (text ++ drop (length text) buf)

@@ -1,11 +1,11 @@
 // The text that the program prints: a line for each record, the last line, and all of it for a script (document 01, "A script comes in").
 ghost use mathlib.Core.Path.{_≡_};
-ghost use Prim.Native.Nat.{_+_, _≤_, _<_, _*_, _^_};
+ghost use Prim.Native.Nat.{_+_, _≤_, _*_};
 ghost use lib.ListN.{length, drop};
 ghost use Rattle.store.specs.Store.{Stored};
 ghost use Rattle.player.specs.Play.{record-length, end-number, end-offset};
-ghost use Rattle.report.specs.Decimal.{digits, decimal};
-ghost use Rattle.report.specs.Lines.{hex-digit, bit, level, record-line, end-line, refused-line, printed, line};
+ghost use Rattle.text.specs.Text.{printed, in-front};
+ghost use Rattle.report.specs.Lines.{bit, level, record-line, end-line, refused-line};
 ghost use Rattle.report.specs.Printout.{first-line, record-lines, last-line, printout};
 use player::End;
 use player::RECORD;
@@ -13,19 +13,6 @@ use port::Port;
 
 // The longest script that the program takes.
 const LONGEST: usize = 16384;
-
-// A hexadecimal digit; `?` above 15.
-pub fn hex_digit(n: u8) -> u8
-    ensures { λ r. ⌜ r ≡ hex-digit n ⌝ }
-{
-    if n < 10 {
-        48 + n
-    } else if n < 16 {
-        55 + n
-    } else {
-        63
-    }
-}
 
 // `0` or `1`; `?` above 1.
 fn bit(n: u8) -> u8
@@ -49,45 +36,14 @@ fn level(n: u8) -> u8
 pub fn record_line(kind: u8, answer: u8, ssr: u8, driven: u8, interrupt: u8) -> [u8; 12]
     ensures { λ r. ⌜ r ≡ record-line kind answer ssr driven interrupt ⌝ }
 {
-    let k = hex_digit(kind);
-    let a = hex_digit(answer / 16);
-    let b = hex_digit(answer % 16);
-    let c = hex_digit(ssr / 16);
-    let d = hex_digit(ssr % 16);
+    let k = text::hex_digit(kind);
+    let a = text::hex_digit(answer / 16);
+    let b = text::hex_digit(answer % 16);
+    let c = text::hex_digit(ssr / 16);
+    let d = text::hex_digit(ssr % 16);
     let e = level(driven);
     let f = bit(interrupt);
     [k, 32, a, b, 32, c, d, 32, e, 32, f, 10]
-}
-
-// Writes a text at an offset, and gives the offset after it.
-fn put_text(buf: &mut [u8], at: usize, text: &[u8]) -> usize
-    requires { ⌜ at + length (now text) ≤ length (now buf) ⌝ }
-    ensures { λ r. ⌜ Stored at (now (text .entry)) (now (buf .entry)) r (now (buf .exit)) ⌝ }
-{
-    at + bytes::copy(text, &mut buf[at..])
-}
-
-// Writes a number in decimal at an offset, in at most `more` digits after the first, and gives the offset after it.
-fn put_decimal(buf: &mut [u8], at: usize, v: u64, more: u32) -> usize
-    requires { ⌜ (v < 10 * 10 ^ more) × (at + length (digits more v) ≤ length (now buf)) ⌝ }
-    ensures { λ r. ⌜ Stored at (digits more v) (now (buf .entry)) r (now (buf .exit)) ⌝ }
-{
-    if v < 10 {
-        buf[at] = (48 + v) as u8;
-        return at + 1;
-    }
-    let last = put_decimal(buf, at, v / 10, more - 1);
-    buf[last] = (48 + v % 10) as u8;
-    last + 1
-}
-
-// Writes a number in decimal at an offset, and gives the offset after it: at most 20 digits.
-fn put_number(buf: &mut [u8], at: usize, v: u64) -> usize
-    requires { ⌜ at + 20 ≤ length (now buf) ⌝ }
-    ensures { λ r. ⌜ Stored at (decimal v) (now (buf .entry)) r (now (buf .exit)) ⌝ }
-    ensures short { λ r. ⌜ r ≤ at + 20 ⌝ }
-{
-    put_decimal(buf, at, v, 19)
 }
 
 // Writes the last line of a script that was accepted at an offset, and gives the offset after it.
@@ -95,9 +51,9 @@ fn put_end(buf: &mut [u8], at: usize, halves: u32) -> usize
     requires { ⌜ at + 64 ≤ length (now buf) ⌝ }
     ensures { λ r. ⌜ Stored at (end-line halves) (now (buf .entry)) r (now (buf .exit)) ⌝ }
 {
-    let number = put_text(buf, at, b"end ");
-    let end = put_number(buf, number, halves as u64);
-    put_text(buf, end, b"\n")
+    let number = text::put_text(buf, at, b"end ");
+    let end = text::put_number(buf, number, halves as u64);
+    text::put_text(buf, end, b"\n")
 }
 
 // Writes the last line of a script that was refused at an offset, and gives the offset after it.
@@ -105,23 +61,23 @@ fn put_refused(buf: &mut [u8], at: usize, number: u8, offset: usize) -> usize
     requires { ⌜ at + 64 ≤ length (now buf) ⌝ }
     ensures { λ r. ⌜ Stored at (refused-line number offset) (now (buf .entry)) r (now (buf .exit)) ⌝ }
 {
-    let first = put_text(buf, at, b"refused ");
-    let word = put_number(buf, first, number as u64);
-    let second = put_text(buf, word, b" at ");
-    let end = put_number(buf, second, offset as u64);
-    put_text(buf, end, b"\n")
+    let first = text::put_text(buf, at, b"refused ");
+    let word = text::put_number(buf, first, number as u64);
+    let second = text::put_text(buf, word, b" at ");
+    let end = text::put_number(buf, second, offset as u64);
+    text::put_text(buf, end, b"\n")
 }
 
 // The last line of a script that was accepted, at the front of the buffer; answers its length.
 pub fn end_line(buf: &mut [u8; 64], halves: u32) -> usize
-    ensures { λ r. ⌜ printed r (now (buf .exit)) ≡ line (end-line halves) (now (buf .entry)) ⌝ }
+    ensures { λ r. ⌜ printed r (now (buf .exit)) ≡ in-front (end-line halves) (now (buf .entry)) ⌝ }
 {
     put_end(buf, 0, halves)
 }
 
 // The last line of a script that was refused, at the front of the buffer; answers its length.
 pub fn refused_line(buf: &mut [u8; 64], number: u8, offset: usize) -> usize
-    ensures { λ r. ⌜ printed r (now (buf .exit)) ≡ line (refused-line number offset) (now (buf .entry)) ⌝ }
+    ensures { λ r. ⌜ printed r (now (buf .exit)) ≡ in-front (refused-line number offset) (now (buf .entry)) ⌝ }
 {
     put_refused(buf, 0, number, offset)
 }
@@ -142,8 +98,8 @@ fn put_records(buf: &mut [u8], log: &[u8], count: usize) -> usize
     let mut n: usize = 0;
     let mut end: usize = 0;
     while n < count {
-        let text = line_at(log, RECORD * n);
-        end = put_text(buf, end, &text);
+        let line = line_at(log, RECORD * n);
+        end = text::put_text(buf, end, &line);
         n = n + 1;
     }
     end
@@ -162,10 +118,10 @@ fn put_last(buf: &mut [u8], at: usize, end: End, halves: u32) -> usize
 
 // Plays a script on a fresh port with a log of 40,960 bytes, and writes all that is printed of it at the front of the buffer; answers its length.
 pub fn printout(buf: &mut [u8; 98368], script: &[u8]) -> usize
-    ensures { λ r. ⌜ printed r (now (buf .exit)) ≡ line (printout (now (script .entry))) (now (buf .entry)) ⌝ }
+    ensures { λ r. ⌜ printed r (now (buf .exit)) ≡ in-front (printout (now (script .entry))) (now (buf .entry)) ⌝ }
 {
     if LONGEST < script.len() {
-        return put_text(buf, 0, b"too long\n");
+        return text::put_text(buf, 0, b"too long\n");
     }
     let mut log = [0u8; 40960];
     let played = player::play(Port::fresh(), script, &mut log);

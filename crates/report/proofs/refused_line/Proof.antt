@@ -1,4 +1,4 @@
-use Rattle.report.proofs.Laws.{at-front}
+use Rattle.text.proofs.Laws.{at-front}
 use borrow.Author.Needs.{needs}
 use Rattle.report.proofs.refused_line.Statement.{statement}
 use Rattle.report.proofs.refused_line.Tie as tie

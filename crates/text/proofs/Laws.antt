@@ -12,8 +12,8 @@ use borrow.Author.Tests.{lt-ltb, le-ltb}
 use Rattle.store.specs.Store.{Stored}
 use Rattle.branches.proofs.Branches.{either-way}
 use Rattle.store.proofs.Laws.{part-stored}
-use Rattle.report.specs.Decimal.{digit, digits}
-use Rattle.report.specs.Lines.{Printed, printed, line}
+use Rattle.text.specs.Decimal.{digit, digits}
+use Rattle.text.specs.Text.{Printed, printed, in-front}
 
 pub few : (k v : ℕ) → v < 10 → digits k v ≡ digit v ∷ []
 few zero v h = refl
@@ -46,13 +46,13 @@ pub copied : (at n : ℕ) (text buf ys : List ℕ) → n ≡ length text → ys 
     Stored at text buf (at + n) (putMid at (length buf - at) buf ys)
 copied at n text buf ys l e = part-stored at n text buf ys l (e ∙ rw (take-length text))
 
--- a text stored at the front of the buffer is a line there
-pub at-front : {text buf after : List ℕ} {to : ℕ} → Stored 0 text buf to after → printed to after ≡ line text buf
+-- a text stored at the front of the buffer is a text there
+pub at-front : {text buf after : List ℕ} {to : ℕ} → Stored 0 text buf to after → printed to after ≡ in-front text buf
 at-front {text} s = let front : 0 + length text ≡ length text = omega arith in rw (s .end, s .buffer, front)
 
--- a line lies within its buffer: what a caller of `end_line` or `refused_line` needs to lend the line on
-pub line-within : (text buf after : List ℕ) (to : ℕ) → printed to after ≡ line text buf → to ≤ length after
-line-within text buf after to e =
+-- a text lies within its buffer: what a caller of a function that makes one needs to lend it on
+pub text-within : (text buf after : List ℕ) (to : ℕ) → printed to after ≡ in-front text buf → to ≤ length after
+text-within text buf after to e =
     let long : to ≡ length text = ap (λ (p : Printed). p .answer) e in
     let all : after ≡ text ++ drop (length text) buf = ap (λ (p : Printed). p .buffer) e in
     omega (arith, ap length all ∙ length-append text (drop (length text) buf))

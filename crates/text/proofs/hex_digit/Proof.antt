@@ -1,7 +1,7 @@
 use Rattle.branches.proofs.Choose.{choose}
 use borrow.Author.Needs.{needs}
-use Rattle.report.proofs.hex_digit.Statement.{statement}
-use Rattle.report.proofs.hex_digit.Tie as tie
+use Rattle.text.proofs.hex_digit.Statement.{statement}
+use Rattle.text.proofs.hex_digit.Tie as tie
 
 pub hex-digit-spec : {M : Type 1} → statement M
 hex-digit-spec =
