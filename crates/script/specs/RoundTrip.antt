@@ -10,10 +10,11 @@ use Rattle.command.specs.declared.Command.{Command}
 use Rattle.script.specs.declared.Decoded.the-variants.{Command as Found}
 use Rattle.script.specs.Number.{number-at}
 use Rattle.script.specs.Encode.{encode}
-use Rattle.script.specs.Command.{command-at}
-use Rattle.script.specs.Items.{Item, call, items}
-use Rattle.script.specs.Write.{bytes}
-use Rattle.command.specs.Command.{InRange}
+use Rattle.script.specs.Command.{with-operands, command-at}
+use Rattle.script.specs.Items.{script-items}
+use Rattle.script.specs.Write.{encode-all, bytes}
+use Rattle.command.specs.Command.{kind, operands, operands-of, InRange}
+use Rattle.machine.specs.Machine.{Item, a-command}
 
 -- the largest number
 abbrev pub largest : ℕ
@@ -41,6 +42,22 @@ NumbersReadBack = (s : List ℕ) (at v next : ℕ) → Stands (encode v) s at ne
 abbrev pub NumbersAreEncodings : Type 0
 NumbersAreEncodings = (s : List ℕ) (at v next : ℕ) → Bytes s → number-at s at ≡ Value v next → Stands (encode v) s at next × (v ≤ largest)
 
+-- the operands of every command in range read, behind its kind, as that command
+abbrev pub OperandsReadBack : Type 0
+OperandsReadBack =
+    (s : List ℕ) (mid next : ℕ) (c : Command) → Stands (encode-all (operands c)) s mid next → InRange c →
+    with-operands s (kind c) mid (operands-of (kind c)) ≡ Found c next
+
+-- every command that is accepted behind a kind is of that kind and in range, and its operands stand there
+pub record Encodes (k : ℕ) (s : List ℕ) (mid : ℕ) (c : Command) (next : ℕ) : Type 0 where
+  pub of-kind : kind c ≡ k
+  pub stand : Stands (encode-all (operands c)) s mid next
+  pub within : InRange c
+
+abbrev pub OperandsAreEncodings : Type 0
+OperandsAreEncodings =
+    (s : List ℕ) (k mid next : ℕ) (c : Command) → Bytes s → with-operands s k mid (operands-of k) ≡ Found c next → Encodes k s mid c next
+
 -- the bytes of every command in range read as that command, with its length
 abbrev pub CommandsReadBack : Type 0
 CommandsReadBack = (s : List ℕ) (at next : ℕ) (c : Command) → Stands (bytes c) s at next → InRange c → command-at s at ≡ Found c next
@@ -54,14 +71,14 @@ abbrev pub script : List Command → List ℕ
 script [] = []
 script (c ∷ cs) = bytes c ++ script cs
 
-abbrev pub calls : ℕ → List Command → List Item
-calls at [] = []
-calls at (c ∷ cs) = call at c ∷ calls (at + length (bytes c)) cs
+abbrev pub placed : ℕ → List Command → List (Item Command)
+placed at [] = []
+placed at (c ∷ cs) = a-command at c ∷ placed (at + length (bytes c)) cs
 
 abbrev pub AllInRange : List Command → Type 0
 AllInRange [] = Unit {0}
 AllInRange (c ∷ cs) = InRange c × AllInRange cs
 
--- a script of commands in range has exactly them as its items
+-- a script of commands in range has exactly them as its items, whatever room a fault would need
 abbrev pub ScriptsReadBack : Type 0
-ScriptsReadBack = (cs : List Command) → AllInRange cs → items (script cs) 0 ≡ calls 0 cs
+ScriptsReadBack = (room : ℕ) (cs : List Command) → AllInRange cs → script-items room (script cs) 0 ≡ placed 0 cs

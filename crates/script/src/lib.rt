@@ -6,7 +6,8 @@ ghost use lib.ListN.{length, drop};
 ghost use Rattle.store.specs.Store.{Stored};
 ghost use Rattle.script.specs.Number.{fault-number, breaks, number-at};
 ghost use Rattle.script.specs.Encode.{encode-in, encode};
-ghost use Rattle.script.specs.Command.{operand-at, and-then, command-at};
+ghost use Rattle.command.specs.Command.{operands-of};
+ghost use Rattle.script.specs.Command.{operand-at, and-then, with-operands, command-at};
 ghost use Rattle.script.specs.Write.{encode-all, bytes, as-put, put};
 use command::Command;
 use command::Operands;
@@ -110,26 +111,18 @@ fn refused(n: Number) -> Decoded
     }
 }
 
-// The command at an offset of the script.
-pub fn read_command(s: &[u8], at: usize) -> Decoded
-    ensures { λ r. ⌜ r ≡ command-at (now (s .entry)) at ⌝ }
+// The command of a kind, whose operands stand at an offset of the script.
+pub fn read_operands(s: &[u8], kind: u32, at: usize) -> Decoded
+    ensures { λ r. ⌜ r ≡ with-operands (now (s .entry)) kind at (operands-of kind) ⌝ }
 {
-    let first = read_number(s, at);
-    let Number::Value {
-        value: kind,
-        next: a_at,
-    } = first
-    else {
-        return refused(first);
-    };
     match command::operands_of(kind) {
         Operands::Unknown => Decoded::Refused(Fault::Kind),
         Operands::None => Decoded::Command {
             command: command::command_of(kind, 0, 0),
-            next: a_at,
+            next: at,
         },
         Operands::One(a_max) => {
-            let second = read_operand(s, a_at, a_max);
+            let second = read_operand(s, at, a_max);
             let Number::Value {
                 value: a,
                 next: end,
@@ -143,7 +136,7 @@ pub fn read_command(s: &[u8], at: usize) -> Decoded
             }
         }
         Operands::Two(a_max, b_max) => {
-            let second = read_operand(s, a_at, a_max);
+            let second = read_operand(s, at, a_max);
             let Number::Value {
                 value: a,
                 next: b_at,
@@ -165,6 +158,17 @@ pub fn read_command(s: &[u8], at: usize) -> Decoded
             }
         }
     }
+}
+
+// The command at an offset of the script.
+pub fn read_command(s: &[u8], at: usize) -> Decoded
+    ensures { λ r. ⌜ r ≡ command-at (now (s .entry)) at ⌝ }
+{
+    let first = read_number(s, at);
+    let Number::Value { value: kind, next } = first else {
+        return refused(first);
+    };
+    read_operands(s, kind, next)
 }
 
 // What writing answers.
