@@ -132,6 +132,18 @@ pub refused-stands : Refused-stands
 unfolding Refused-stands
 refused-stands c p q n offset r = subst (Stands p (8 ∷ four)) r (stands p (8 ∷ four) (direct c p) (direct-tested c p))
 
+-- so no refusal has the number 0
+pub refused-not-0 : (c : Command) (p q : Port) (n offset : ℕ) → direct c p ≡ refused n offset q → n ≡ 0 → ⊥
+unfolding Refused-stands
+refused-not-0 c p q n offset e z = not-0 (subst (One-of (8 ∷ 2 ∷ 1 ∷ 3 ∷ 4 ∷ [])) z (refused-stands c p q n offset e .2))
+  where
+    not-0 : One-of (8 ∷ 2 ∷ 1 ∷ 3 ∷ 4 ∷ []) 0 → ⊥
+    not-0 (inl e) = omega arith
+    not-0 (inr (inl e)) = omega arith
+    not-0 (inr (inr (inl e))) = omega arith
+    not-0 (inr (inr (inr (inl e)))) = omega arith
+    not-0 (inr (inr (inr (inr (inl e))))) = omega arith
+
 -- on a port that passes the field test the call is all there is
 passing-tested : (c : Command) (p : Port) → valid p ≡ true → Tested p four (direct c p)
 unfolding direct

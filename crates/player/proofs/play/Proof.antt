@@ -1,4 +1,5 @@
 use borrow.Author.Needs.{needs}
+use Rattle.port.proofs.CallLaws.{tested}
 use Rattle.player.proofs.Laws.{play-tested, play-refused}
 use Rattle.player.proofs.play.Statement.{statement}
 use Rattle.player.proofs.play.Tie as tie
@@ -8,7 +9,7 @@ play-spec =
     tie.close
     (tie.spec
     (λ c κs. search needs)
-    (λ c κs. search needs)
+    (λ c κs. search (tested, needs) depth 10)
     (λ c. search needs)
     (λ c. let a = c .before .before .before .before .before .before .before .before .args in
     play-tested (a .port) (a .script .now) (a .log .now) (c .before .before .before .before .before .valid .result) _ (c .before .before .before .before .before .valid .ensures) (c .before .before .before .before .if1 .taken) (c .before .before .play-on .ensures))

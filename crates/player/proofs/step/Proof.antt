@@ -14,9 +14,6 @@ read-command-requires c κs = search needs
 enum-known-fault : tie.Need-enum-known-fault
 enum-known-fault c = search needs
 
-refusal-of-requires : tie.Need-refusal-of-requires
-refusal-of-requires c κs = search needs
-
 enum-known-command : tie.Need-enum-known-command
 enum-known-command c = search needs
 
@@ -34,18 +31,25 @@ write-record-requires c κs = search needs
 
 returns-2 : tie.Need-returns-2
 returns-2 c =
-    let a = c .before .before .before .before .before .before .before .before .args in step-fault (a .port) (a .script .now) (a .at) (a .log .now) _ _ (c .before .before .before .before .before .if1 .left) (c .refusal-of .ensures) (sym (c .before .before .before .before .read-command .ensures) ∙ c .before .before .fault .given .1)
+    let a = c .before .before .before .before .before .before .before .args in
+    step-fault (a .port) (a .script .now) (a .at) (a .log .now) _ (c .before .before .before .before .if1 .left)
+    (sym (c .before .before .before .read-command .ensures) ∙ c .before .fault .given .1)
 
 returns-3 : tie.Need-returns-3
 returns-3 c =
-    let a = c .before .before .before .before .before .before .before .before .before .before .before .args in step-refused (a .port) (a .script .now) (a .at) (a .log .now) _ _ _ _ (c .before .before .before .call .result) (c .before .before .before .before .before .before .before .before .if1 .left) (sym (c .before .before .before .before .before .before .before .read-command .ensures) ∙ c .before .before .before .before .before .command .given .1) (c .before .before .before .call .ensures) (c .before .outcome .given .1)
+    let a = c .before .before .before .before .before .before .before .before .before .before .before .args in
+    step-refused (a .port) (a .script .now) (a .at) (a .log .now) _ _ _ _ (c .before .before .before .call .result) (c .before .before .before .before .before .before .before .before .before .before .before .pre) (c .before .before .before .before .before .before .before .before .if1 .left)
+    (sym (c .before .before .before .before .before .before .before .read-command .ensures) ∙ c .before .before .before .before .before .command .given .1) (c .before .before .before .call .ensures) (c .before .outcome .given .1)
 
 same-length : tie.Need-same-length
 same-length c = search needs
 
 returns-4 : tie.Need-returns-4
 returns-4 c =
-    let a = c .before .before .before .before .before .before .before .before .before .before .before .before .before .before .before .before .args in step-onward (a .port) (a .script .now) (a .at) (a .log .now) _ _ _ (c .before .before .before .before .before .before .before .before .call .result) _ (c .before .before .before .before .before .before .before .before .before .before .before .before .before .if1 .left) (sym (c .before .before .before .before .before .before .before .before .before .before .before .before .read-command .ensures) ∙ c .before .before .before .before .before .before .before .before .before .before .command .given .1) (c .before .before .before .before .before .before .before .before .call .ensures) (c .before .before .before .before .before .before .outcome2 .given .1) (c .before .before .write-record .ensures)
+    let a = c .before .before .before .before .before .before .before .before .before .before .before .before .before .before .before .before .args in
+    step-onward (a .port) (a .script .now) (a .at) (a .log .now) _ _ _ (c .before .before .before .before .before .before .before .before .call .result) _ (c .before .before .before .before .before .before .before .before .before .before .before .before .before .before .before .before .pre) (c .before .before .before .before .before .before .before .before .before .before .before .before .before .if1 .left)
+    (sym (c .before .before .before .before .before .before .before .before .before .before .before .before .read-command .ensures) ∙ c .before .before .before .before .before .before .before .before .before .before .command .given .1) (c .before .before .before .before .before .before .before .before .call .ensures) (c .before .before .before .before .before .before .outcome2 .given .1)
+    (c .before .before .write-record .ensures)
 
 pub step-spec : {M : Type 1} → statement M
 step-spec =
@@ -54,7 +58,6 @@ step-spec =
     returns
     read-command-requires
     enum-known-fault
-    refusal-of-requires
     enum-known-command
     call-requires
     enum-known-outcome
