@@ -12,14 +12,17 @@ use lib.Seq.{drop-drop, getD-drop}
 use lib.Dec.{eqb}
 use borrow.Author.Tests.{lt-ltb, le-ltb}
 use Rattle.port.specs.declared.Port.{Port}
-use Rattle.port.specs.declared.Refusal.{Refusal}
-use Rattle.port.specs.declared.Refusal.the-variants.{Address, Operand, Infrared, Count, Short, Number, Kind, State, Full}
-use Rattle.port.specs.Calls.{number}
+use Rattle.port.specs.declared.Port.{Port}
+use Rattle.port.specs.declared.Refusal.the-variants.{Address, Operand as TooLarge, Infrared, Count, State}
+use Rattle.script.specs.declared.Fault.the-variants.{Short, Number, Kind, Operand}
+use Rattle.machine.specs.Machine.{Run}
+use Rattle.player.specs.declared.Reason.{Reason}
+use Rattle.player.specs.declared.Reason.the-variants.{Unread, Call, Full}
 use Rattle.port.specs.Power.{fresh}
 use Rattle.player.specs.declared.End.{End}
 use Rattle.player.specs.declared.End.the-variants.{Accepted, Refused}
 use Rattle.player.specs.declared.Played.{Played}
-use Rattle.player.specs.Play.{Run, record-length, end-number, end-offset, ran, play}
+use Rattle.player.specs.Play.{record-length, reason-number, end-number, end-offset, ran, play}
 use Rattle.player.proofs.Used.{within}
 use Rattle.store.specs.Store.{Stored}
 use Rattle.store.proofs.Laws.{both-stored, room-after}
@@ -48,15 +51,16 @@ next-line (suc n) log =
 
 -- ---- the last line
 
-number-not-0 : (r : Refusal) → eqb (number r) 0 ≡ false
-number-not-0 Address = refl
-number-not-0 Operand = refl
-number-not-0 Infrared = refl
-number-not-0 Count = refl
-number-not-0 Short = refl
-number-not-0 Number = refl
-number-not-0 Kind = refl
-number-not-0 State = refl
+number-not-0 : (r : Reason) → eqb (reason-number r) 0 ≡ false
+number-not-0 (Unread Short) = refl
+number-not-0 (Unread Number) = refl
+number-not-0 (Unread Kind) = refl
+number-not-0 (Unread Operand) = refl
+number-not-0 (Call Address) = refl
+number-not-0 (Call TooLarge) = refl
+number-not-0 (Call Infrared) = refl
+number-not-0 (Call Count) = refl
+number-not-0 (Call State) = refl
 number-not-0 Full = refl
 
 module _ (halves : ℕ) {at to : ℕ} {before after : List ℕ} where
@@ -64,7 +68,7 @@ module _ (halves : ℕ) {at to : ℕ} {before after : List ℕ} where
       Stored at (last-line (end-number end) (end-offset end) halves) before to after
   last-accepted end e s = rw e s
 
-  pub last-refused : (end : End) {r : Refusal} {n offset : ℕ} → end ≡ Refused r offset → n ≡ number r → Stored at (refused-line n offset) before to after →
+  pub last-refused : (end : End) {r : Reason} {n offset : ℕ} → end ≡ Refused r offset → n ≡ reason-number r → Stored at (refused-line n offset) before to after →
       Stored at (last-line (end-number end) (end-offset end) halves) before to after
   last-refused end {r} {n} {offset} e h s = rw (e, number-not-0 r, ← h) s
 
@@ -97,7 +101,7 @@ from-fresh script log zeros x p e h = e ∙ ap (λ (q : Port). play q script zer
 
 module _ (script log : List ℕ) (x : Played) (run : ran x log ≡ play fresh script (replicate log-length 0)) where
   used-within : x .used ≤ log-length
-  used-within = let w = within fresh script (replicate log-length 0) in omega (arith, ap (λ (r : Run). r .used) run, w .used, length-replicate {A = ℕ} log-length 0)
+  used-within = let w = within fresh script (replicate log-length 0) in omega (arith, ap (λ (r : Run Port). r .used) run, w .used, length-replicate {A = ℕ} log-length 0)
 
   pub records-fit : (before : List ℕ) → length log ≡ log-length → length before ≡ 98368 →
       (record-length * (x .used / record-length) ≤ length log) × (12 * (x .used / record-length) + 64 ≤ length before)

@@ -17,7 +17,9 @@ use Rattle.port.specs.Power.{fresh, reset-registers, reset, set-power}
 use Rattle.port.specs.Pins.{receive-input, external-edge, input-pins, transmit-level, interrupt}
 use Rattle.port.specs.Valid.{registers-valid, valid}
 use Rattle.port.specs.Calls.{called, direct}
-use Rattle.player.specs.Play.{Run, play-items, play}
+use Rattle.port.specs.declared.Port.{Port}
+use Rattle.machine.specs.Machine.{Run, play-items}
+use Rattle.player.specs.Play.{play}
 use Rattle.report.specs.Printout.{printout}
 use Rattle.report.specs.Lines.{record-line, end-line, refused-line}
 
@@ -104,7 +106,7 @@ refused-cases =
     ∷ refused-row (0x08 ∷ []) 4 (9 ∷ 0 ∷ 0 ∷ [])
     ∷ []
 
-abbrev pub told-by : Run → List ℕ
+abbrev pub told-by : Run Port → List ℕ
 told-by r = r .number ∷ r .offset ∷ r .used ∷ []
 
 pub each-refusal : map (λ k. told-by (play fresh (k .script) (replicate (k .room) 0))) refused-cases ≡ map (λ k. k .told) refused-cases

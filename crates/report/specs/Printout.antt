@@ -8,7 +8,9 @@ use mathlib.Core.List.{List, [], _∷_, _++_}
 use lib.ListN.{length, drop, getD, replicate}
 use lib.Dec.{ltb, eqb}
 use Rattle.port.specs.Power.{fresh}
-use Rattle.player.specs.Play.{Run, record-length, play}
+use Rattle.port.specs.declared.Port.{Port}
+use Rattle.machine.specs.Machine.{Run}
+use Rattle.player.specs.Play.{record-length, play}
 use Rattle.report.specs.Lines.{record-line, end-line, refused-line}
 
 -- the line of the record at the front of a log
@@ -24,8 +26,8 @@ record-lines (suc n) log = first-line log ++ record-lines n (drop record-length 
 abbrev pub last-line : ℕ → ℕ → ℕ → List ℕ
 last-line number offset halves = cond (eqb number 0) (end-line halves) (refused-line number offset)
 
-abbrev pub run-text : Run → List ℕ
-run-text r = record-lines (r .used / record-length) (r .log) ++ last-line (r .number) (r .offset) (r .port .half)
+abbrev pub run-text : Run Port → List ℕ
+run-text r = record-lines (r .used / record-length) (r .log) ++ last-line (r .number) (r .offset) (r .state .half)
 
 abbrev pub longest : ℕ
 longest = 16384

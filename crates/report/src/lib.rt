@@ -112,7 +112,7 @@ fn put_last(buf: &mut [u8], at: usize, end: End, halves: u32) -> usize
 {
     match end {
         End::Accepted => put_end(buf, at, halves),
-        End::Refused { refusal, offset } => put_refused(buf, at, refusal.number(), offset),
+        End::Refused { reason, offset } => put_refused(buf, at, reason.number(), offset),
     }
 }
 
