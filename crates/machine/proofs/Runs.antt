@@ -89,3 +89,7 @@ module _ {C S : Type 0} (room : C → ℕ) (act : C → S → Act S) (sound : So
 
   pub runs-are-commands : (p : S) (is : List (Item C)) (log : List ℕ) → IsItsCommands room act p (commands is) log (play-items room act p is log)
   runs-are-commands p is log = is-its p (commands is) log (play-items room act p is log) (plays p is log)
+
+  -- and so is one that ends at once, by a refusal
+  pub none-are-commands : (n at : ℕ) (p : S) (cs : List C) (log : List ℕ) → (n ≡ 0 → cs ≡ []) → IsItsCommands room act p cs log (ended n at p log)
+  none-are-commands n at p cs log w = is-its p cs log (ended n at p log) (none n at p cs log w)

@@ -14,13 +14,14 @@ use Rattle.command.specs.declared.Command.the-variants.{Wait, Power, Read, Writ
 use Rattle.port.specs.Power.{fresh}
 use Rattle.port.specs.Pins.{interrupt, transmit-level}
 use Rattle.script.specs.RoundTrip.{script}
-use Rattle.player.specs.Play.{play, play-items}
+use Rattle.machine.specs.Machine.{play-items}
+use Rattle.player.specs.Play.{play}
 use Rattle.recovery.specs.Line.{LineItem, mark, signal, spread, stop-cells-begun, stop-cells-passed, tally-after, values, word-of}
 use Rattle.recovery.specs.Layers.{Carried, CarriesOver, calls-made, state-after}
 use Rattle.recovery.specs.Recovery.{completed, levels, run-wired, trace, wait-trace}
 use Rattle.recovery.proofs.Compute.{count-halves, Met, all-may, are-separated, asked-of, history-meets, is-prefix, may-read, may-rest, meets, met, rest-meets, was-read, words-meet}
 use Rattle.recovery.proofs.Computes.{computes}
-use Rattle.script_laws.specs.Runs.{Action, all-calls, calls, counts-as, leaves, makes-call, plays-script, port-after}
+use Rattle.script_laws.specs.Runs.{Action, all-calls, counts-as, leaves, makes-call, plays-script, port-after}
 use Rattle.script_laws.proofs.Runs.{scripts-recover}
 
 -- a word begins
@@ -61,13 +62,13 @@ actions =
 
 -- its calls
 pub history : List Command
-history = calls noise ++ (Power 8 ∷ Wait 70000 ∷ calls set-up)
+history = noise ++ (Power 8 ∷ Wait 70000 ∷ set-up)
 
 pub rest : List Command
-rest = calls resting
+rest = resting
 
 pub words : List Command
-words = calls one-word ++ calls another
+words = one-word ++ another
 
 computed : Bool
 unfolding computes spread signal values stop-cells-begun stop-cells-passed tally-after levels completed run-wired wait-trace trace is-prefix may-rest may-read was-read are-separated all-may count-halves history-meets rest-meets words-meet asked-of meets noise set-up resting send one-word another on-line history rest words

@@ -4,59 +4,30 @@
 -- Proved in proofs/Runs.antt; proofs/Example.antt has a list with a noisy history that meets all that demand 3 asks.
 -- Assumes nothing.
 use mathlib.Core.Path.{_≡_}
-use Prim.Native.Nat.{ℕ, _*_, _/_}
+use Prim.Native.Nat.{ℕ}
 use mathlib.Core.Bool.{true}
-use mathlib.Core.List.{List, [], _∷_, _++_}
-use lib.ListN.{length, take, drop}
-use Rattle.port.specs.declared.Port.{Port}
+use mathlib.Core.List.{List, [], _∷_}
 use Rattle.command.specs.declared.Command.{Command}
-use Rattle.port.specs.Calls.{Answer, done, refused, after, direct, run}
+use Rattle.machine.specs.Machine.{Run, commands, played, IsItsCommands}
+use Rattle.port.specs.declared.Port.{Port}
+use Rattle.port.specs.Calls.{after, direct, run}
 use Rattle.port.specs.Power.{fresh}
 use Rattle.port.specs.Valid.{valid}
-use Rattle.script.specs.Items.{Item, call, stop, items}
-use Rattle.player.specs.Play.{Run, record-length, record-of, play}
+use Rattle.player.specs.Play.{room, items, act, play}
 use Rattle.recovery.specs.Layers.{CarriesOver, calls-made, state-after}
-use Rattle.recovery.specs.Recovery.{accepted}
 
 -- ---- a run is its commands' direct calls
--- the commands of a script, up to where reading stops
-abbrev pub commands : List Item → List Command
-commands [] = []
-commands (call at c ∷ is) = c ∷ commands is
-commands (stop at why ∷ is) = []
-
-abbrev pub calls : List Command → List Command
-calls [] = []
-calls (c ∷ cs) = c ∷ calls cs
-
--- "the value read, else 0"
-abbrev pub value : Answer → ℕ
-value (done v q) = v
-value (refused n offset q) = 0
-
--- the records of commands made one after the other, the first on p
-abbrev pub records : Port → List Command → List ℕ
-records p [] = []
-records p (c ∷ cs) =
-    let a = direct c p in
-    record-of c (value a) (after a) ++ records (after a) cs
-
-abbrev pub AllAccepted : Port → List Command → Type 0
-AllAccepted p [] = Unit {0}
-AllAccepted p (c ∷ cs) = (accepted (direct c p) ≡ true) × AllAccepted (after (direct c p)) cs
-
--- the commands that were played: as many as there are records
-abbrev pub played : List ℕ → Run → List Command
-played s r = take (r .used / record-length) (commands (items s 0))
+-- the commands that were played: the first ones, as many as filled the bytes of the log that were written
+abbrev pub commands-played : List ℕ → Run Port → List Command
+commands-played s r = played room (r .used) (commands (items s))
 
 -- the run r of the script s on the port p, where the log was `before`
-pub record IsItsCalls (p : Port) (s before : List ℕ) (r : Run) : Type 0 where
-  pub accepted : AllAccepted p (played s r)
-  pub port : r .port ≡ run p (calls (played s r))
-  pub used : r .used ≡ record-length * length (played s r)
-  pub log : r .log ≡ records p (played s r) ++ drop (r .used) before
-  -- a script that was accepted was played whole
-  pub whole : r .number ≡ 0 → played s r ≡ commands (items s 0)
+pub record IsItsCalls (p : Port) (s before : List ℕ) (r : Run Port) : Type 0 where
+  -- none of them was refused; the log begins with their records, and every other byte is as it was; a script that was accepted was played whole
+  -- (machine's Machine.antt)
+  pub its-commands : IsItsCommands room act p (commands (items s)) before r
+  -- their direct calls leave the port
+  pub port : r .state ≡ run p (commands-played s r)
 
 abbrev pub RunsAreCalls : Type 0
 RunsAreCalls = (p : Port) (s log : List ℕ) → IsItsCalls p s log (play p s log)
@@ -74,12 +45,12 @@ pub data Action : Type 0 where
 -- the port that an action leaves, be it accepted or refused
 abbrev pub leaves : Action → Port → Port
 leaves (makes-call c) p = after (direct c p)
-leaves (plays-script s log) p = play p s log .port
+leaves (plays-script s log) p = play p s log .state
 
 -- "a script counts as its commands' calls": those that were played, up to the one that was refused
 abbrev pub counts-as : Action → Port → List Command
 counts-as (makes-call c) p = c ∷ []
-counts-as (plays-script s log) p = calls (played s (play p s log))
+counts-as (plays-script s log) p = commands-played s (play p s log)
 
 -- actions made one after the other on a fresh port, each on the port that the one before left: the port after them, and their calls
 abbrev pub port-after : List Action → Port
