@@ -11,21 +11,22 @@ use borrow.Author.Tests.{eq-eqb, eqb-true, ne-eqb}
 use Rattle.branches.proofs.Branches.{by-cond, both-arms}
 use Rattle.port.specs.declared.Port.{Port}
 use Rattle.command.specs.declared.Command.{Command}
+use Rattle.command.specs.Command.{command-of}
 use Rattle.command.specs.declared.Command.the-variants.{Read, Write, Wait, Line, Pins, Power, Inside}
 use Rattle.port.specs.Calls.{Answer, done, refused, after, direct, run}
 use Rattle.port.specs.Power.{fresh}
 use Rattle.port.specs.Valid.{valid}
-use Rattle.script.specs.Items.{items}
-use Rattle.player.specs.Play.{Run, ended, play-items, play}
+use Rattle.machine.specs.Machine.{Run, ended, play-items}
+use Rattle.player.specs.Play.{room, items, act, play}
 use Rattle.port_laws.specs.Laws.{Refused-stands}
 use Rattle.port_laws.specs.Ranges.{Answers-a-byte}
 use Rattle.port_laws.proofs.Laws.{refused-stands}
 use Rattle.port_laws.proofs.Ranges.{answers-a-byte}
 use Rattle.recovery.specs.Layers.{CarriesOver, state-after}
-use Rattle.script_laws.specs.Runs.{Action, makes-call, plays-script, leaves, calls, played as commands-played, port-after}
+use Rattle.script_laws.specs.Runs.{Action, makes-call, plays-script, leaves, commands-played, port-after}
 use Rattle.script_laws.proofs.Runs.{runs-are-calls, eight-at-entry-only, actions-are-calls, scripts-recover}
 use Rattle.capi.specs.State.{a-port, encode, port-max}
-use Rattle.capi.specs.Exports.{Lent, lent, refusal, command, call-left, call-on, call, pins-on, pins-answer, interrupt-on, interrupt-answer, fresh-state, Playing, playing, run-left, play-on, played}
+use Rattle.capi.specs.Exports.{Lent, lent, refusal, call-left, call-on, call, pins-on, pins-answer, interrupt-on, interrupt-answer, fresh-state, Playing, playing, run-left, play-on, played}
 use Rattle.capi.specs.Round.{PortTyped}
 use Rattle.capi.proofs.Answers.{late-test}
 use Rattle.capi.proofs.Round.{round-trip}
@@ -36,7 +37,7 @@ use Rattle.array_laws.proofs.Decoded.{decoded-typed}
 
 -- ---- every action is an exported call
 pub all-actions-exported : AllActionsExported
-unfolding AllActionsExported command
+unfolding AllActionsExported
 all-actions-exported [] = refl
 all-actions-exported (makes-call (Read a) ∷ acts) = ap (λ (l : List Action). makes-call (Read a) ∷ l) (all-actions-exported acts)
 all-actions-exported (makes-call (Write a v) ∷ acts) = ap (λ (l : List Action). makes-call (Write a v) ∷ l) (all-actions-exported acts)
@@ -53,19 +54,19 @@ abbrev Left : List ℕ → Port → List ℕ → Port → Type 0
 Left s p t q = ((t ≡ s) × (q ≡ p)) ⊎ (t ≡ encode q)
 
 -- a run that is refused by 8 leaves the port as it was
-at-8 : (p : Port) (script log : List ℕ) → play p script log .number ≡ 8 → play p script log .port ≡ p
+at-8 : (p : Port) (script log : List ℕ) → play p script log .number ≡ 8 → play p script log .state ≡ p
 unfolding play
 at-8 p script log z = go (valid p) refl
   where
-    go : (b : Bool) → valid p ≡ b → play p script log .port ≡ p
+    go : (b : Bool) → valid p ≡ b → play p script log .state ≡ p
     go true e = absurd (eight-at-entry-only p script log e z)
-    go false e = ap (λ (b : Bool). cond b (play-items p (items script 0) log) (ended 8 0 p log) .port) e
+    go false e = ap (λ (b : Bool). cond b (play-items room act p (items script) log) (ended 8 0 p log) .state) e
 
 module _ (s : List ℕ) (p : Port) (d : Holds s p) where
   on-call : (kind a b : ℕ) → call kind a b s
-      ≡ cond (leb 1 kind && leb kind 7) (call-left s (direct (command kind a b) p)) (cond (valid p) (lent (refusal 7) s) (lent (refusal 8) s))
+      ≡ cond (leb 1 kind && leb kind 7) (call-left s (direct (command-of kind a b) p)) (cond (valid p) (lent (refusal 7) s) (lent (refusal 8) s))
   unfolding call
-  on-call kind a b = ap (call-on kind a b s) d ∙ sym (late-test (command kind a b) (leb 1 kind && leb kind 7) s (lent (refusal 7) s) p)
+  on-call kind a b = ap (call-on kind a b s) d ∙ sym (late-test (command-of kind a b) (leb 1 kind && leb kind 7) s (lent (refusal 7) s) p)
 
   on-play : (script log : List ℕ) → played s script log ≡ run-left s (play p script log)
   unfolding played
@@ -82,7 +83,7 @@ module _ (s : List ℕ) (p : Port) (d : Holds s p) where
       subst (λ (l : Lent). Left s p (l .state) (state-after leaves p (action-of (sci3-call kind a b)))) (sym (on-call kind a b)) (go (leb 1 kind && leb kind 7))
     where
       c : Command
-      c = command kind a b
+      c = command-of kind a b
 
       unknown : Lent
       unknown = cond (valid p) (lent (refusal 7) s) (lent (refusal 8) s)
@@ -91,20 +92,20 @@ module _ (s : List ℕ) (p : Port) (d : Holds s p) where
       go true = answer-left c (direct c p) refl
       go false = both-arms (λ (l : Lent). Left s p (l .state) p) (valid p) (lent (refusal 7) s) (lent (refusal 8) s) (inl (refl, refl)) (inl (refl, refl))
   left (sci3-play script log) =
-      let r : Run = play p script log in
-      subst (λ (l : Playing). Left s p (l .state) (r .port)) (sym (on-play script log))
-      (by-cond (λ (t : List ℕ). Left s p t (r .port)) (eqb (r .number) 8) s (encode (r .port)) (λ e. inl (refl, at-8 p script log (eqb-true (r .number) 8 e))) (λ e. inr refl))
+      let r : Run Port = play p script log in
+      subst (λ (l : Playing). Left s p (l .state) (r .state)) (sym (on-play script log))
+      (by-cond (λ (t : List ℕ). Left s p t (r .state)) (eqb (r .number) 8) s (encode (r .state)) (λ e. inl (refl, at-8 p script log (eqb-true (r .number) 8 e))) (λ e. inr refl))
 
   answers : valid p ≡ true → Answers s p
   unfolding DecodedTyped Answers-a-byte pins-answer interrupt-answer
   answers e =
       record {
         of-call = λ kind a b. on-call kind a b
-            ∙ ap (λ (v : Bool). cond (leb 1 kind && leb kind 7) (call-left s (direct (command kind a b) p)) (cond v (lent (refusal 7) s) (lent (refusal 8) s))) e;
+            ∙ ap (λ (v : Bool). cond (leb 1 kind && leb kind 7) (call-left s (direct (command-of kind a b) p)) (cond v (lent (refusal 7) s) (lent (refusal 8) s))) e;
         of-read = λ c v q h. answers-a-byte c p q v (typed-in-range p (decoded-typed s p d)) h;
-        of-play = λ script log. let r : Run = play p script log in
+        of-play = λ script log. let r : Run Port = play p script log in
             on-play script log
-            ∙ ap (λ (b : Bool). playing (r .number) (r .offset ∷ r .used ∷ []) (cond b s (encode (r .port))) (r .log)) (ne-eqb (r .number) 8 (eight-at-entry-only p script log e));
+            ∙ ap (λ (b : Bool). playing (r .number) (r .offset ∷ r .used ∷ []) (cond b s (encode (r .state))) (r .log)) (ne-eqb (r .number) 8 (eight-at-entry-only p script log e));
         of-pins = ap pins-on d;
         of-interrupt = ap interrupt-on d;
       }
@@ -117,7 +118,7 @@ pub failing-refused : FailingRefused
 unfolding FailingRefused call play
 failing-refused s p d e = (
   λ kind a b. ap (call-on kind a b s) d
-      ∙ ap (λ (v : Bool). cond v (cond (leb 1 kind && leb kind 7) (call-left s (direct (command kind a b) p)) (lent (refusal 7) s)) (lent (refusal 8) s)) e,
+      ∙ ap (λ (v : Bool). cond v (cond (leb 1 kind && leb kind 7) (call-left s (direct (command-of kind a b) p)) (lent (refusal 7) s)) (lent (refusal 8) s)) e,
   λ script log. on-play s p d script log ∙ ap (λ (v : Bool). run-left s (cond v (play-items p (items script 0) log) (ended 8 0 p log))) e,
 )
 
@@ -138,7 +139,7 @@ run-typed (c ∷ cs) p t = run-typed cs (after (direct c p)) (after-typed c p t)
 leaves-typed : (a : Action) (p : Port) → PortTyped p → PortTyped (leaves a p)
 leaves-typed (makes-call c) p t = after-typed c p t
 leaves-typed (plays-script script log) p t =
-    subst PortTyped (sym (runs-are-calls p script log .port)) (run-typed (calls (commands-played script (play p script log))) p t)
+    subst PortTyped (sym (runs-are-calls p script log .port)) (run-typed (commands-played script (play p script log)) p t)
 
 actions-typed : (acts : List Action) (p : Port) → PortTyped p → PortTyped (state-after leaves p acts)
 unfolding state-after

@@ -14,7 +14,7 @@ use Rattle.recovery.proofs.Computes.{computes}
 use Rattle.script_laws.specs.Runs.{Action, port-after}
 use Rattle.script_laws.proofs.Example as worked
 use Rattle.capi.specs.State.{encode, port-max, fits, due-in, holding-in, format-in, character-in, tail-of, tx-of, tx-in, position-of, word-in, rx-in, port-of, port-in, decode}
-use Rattle.capi.specs.Exports.{fresh-state, command, call}
+use Rattle.capi.specs.Exports.{fresh-state, call}
 use Rattle.array_laws.specs.Arrays.{Exported, sci3-call, array-after, actions, exported, AllActionsExported, ArraysArePorts}
 use Rattle.array_laws.proofs.Arrays.{all-actions-exported, arrays-are-ports}
 
@@ -32,10 +32,10 @@ abbrev unknown-kind : List Exported
 unknown-kind = sci3-call 6 3 0 ∷ sci3-call 3 32 0 ∷ sci3-call 8 0 0 ∷ []
 
 at-edge : port-after (actions unknown-kind) .edge ≡ true
-unfolding computes state-after command
+unfolding computes state-after
 at-edge = refl
 
 -- the same in numbers, through the array: module, main clock, subclock, reset mode, half count, phase, edge
 in-numbers : take 7 (drop 10 (array-after (encode fresh) unknown-kind)) ≡ 1 ∷ 1 ∷ 0 ∷ 0 ∷ 32 ∷ 1 ∷ 1 ∷ []
-unfolding computes state-after command call decode fits port-in port-of due-in holding-in format-in character-in tx-in tx-of tail-of word-in rx-in position-of encode
+unfolding computes state-after call decode fits port-in port-of due-in holding-in format-in character-in tx-in tx-of tail-of word-in rx-in position-of encode
 in-numbers = refl

@@ -12,6 +12,7 @@ use lib.ListN.{length}
 use Rattle.frame.specs.Frame.{one-if}
 use Rattle.port.specs.declared.Port.{Port}
 use Rattle.command.specs.declared.Command.{Command}
+use Rattle.command.specs.Command.{command-of}
 use Rattle.command.specs.declared.Command.the-variants.{Read, Write, Wait, Line, Pins, Power, Inside}
 use Rattle.port.specs.Calls.{done, direct, run}
 use Rattle.port.specs.Pins.{pins, interrupt}
@@ -23,7 +24,7 @@ use Rattle.recovery.specs.Layers.{Carried, state-after}
 use Rattle.recovery.specs.Recovery.{HistoryEnd, Rest, Words, rest-end, start, run-wired as run-wired}
 use Rattle.script_laws.specs.Runs.{Action, makes-call, plays-script, leaves, counts-as, port-after, all-calls}
 use Rattle.capi.specs.State.{a-port, decode, encode, port-max}
-use Rattle.capi.specs.Exports.{lent, refusal, command, call-left, call, pins-number, pins-answer, interrupt-answer, fresh-state, playing, played}
+use Rattle.capi.specs.Exports.{lent, refusal, call-left, call, pins-number, pins-answer, interrupt-answer, fresh-state, playing, played}
 
 -- ---- exported calls
 -- the two that write the array: `sci3_call` with kind and operands, `sci3_play` with a script and what the lent log holds
@@ -41,7 +42,7 @@ array-after = state-after array-left
 
 -- what one is as an action on a port: a direct call, nothing where the kind is none of 1 to 7, a script
 abbrev pub action-of : Exported → List Action
-action-of (sci3-call kind a b) = cond (leb 1 kind && leb kind 7) (makes-call (command kind a b) ∷ []) []
+action-of (sci3-call kind a b) = cond (leb 1 kind && leb kind 7) (makes-call (command-of kind a b) ∷ []) []
 action-of (sci3-play script log) = plays-script script log ∷ []
 
 abbrev pub actions : List Exported → List Action
@@ -85,10 +86,10 @@ ArraysAreCalls =
 -- ---- what is call-left
 -- by each export on an array s that holds the port p: what a direct call on p, a run on p, the pins of p and its interrupt request are; never 8
 pub record Answers (s : List ℕ) (p : Port) : Type 0 where
-  pub of-call : (kind a b : ℕ) → call kind a b s ≡ cond (leb 1 kind && leb kind 7) (call-left s (direct (command kind a b) p)) (lent (refusal 7) s)
+  pub of-call : (kind a b : ℕ) → call kind a b s ≡ cond (leb 1 kind && leb kind 7) (call-left s (direct (command-of kind a b) p)) (lent (refusal 7) s)
   -- below 256, so that no value is taken for a refusal
   pub of-read : (c : Command) (v : ℕ) (q : Port) → direct c p ≡ done v q → v < 256
-  pub of-play : (script log : List ℕ) → let r = play p script log in played s script log ≡ playing (r .number) (r .offset ∷ r .used ∷ []) (encode (r .port)) (r .log)
+  pub of-play : (script log : List ℕ) → let r = play p script log in played s script log ≡ playing (r .number) (r .offset ∷ r .used ∷ []) (encode (r .state)) (r .log)
   pub of-pins : pins-answer s ≡ pins-number (pins p)
   pub of-interrupt : interrupt-answer s ≡ one-if (interrupt p)
 

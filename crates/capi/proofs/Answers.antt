@@ -15,12 +15,13 @@ use Rattle.port.specs.declared.Outcome.the-variants.{Done, Refused}
 use Rattle.port.specs.declared.Refusal.{Refusal}
 use Rattle.port.specs.Valid.{valid}
 use Rattle.command.specs.declared.Command.{Command}
+use Rattle.command.specs.Command.{command-of}
 use Rattle.port.specs.Calls.{Answer, refuse, called, direct, answer, answer-of, number}
 use Rattle.port.specs.Pins.{pins, interrupt, level-number}
 use Rattle.player.specs.declared.Played.{Played}
 use Rattle.player.specs.Play.{play, end-number, end-offset, ran}
 use Rattle.capi.specs.State.{a-port, nothing, decode, encode, port-max, port-in, fits}
-use Rattle.capi.specs.Exports.{Lent, lent, refusal, command, call-left, call-on, call, clock-number, pins-number, pins-on, pins-answer, interrupt-on, interrupt-answer, playing, run-left, play-on, played}
+use Rattle.capi.specs.Exports.{Lent, lent, refusal, call-left, call-on, call, clock-number, pins-number, pins-on, pins-answer, interrupt-on, interrupt-answer, playing, run-left, play-on, played}
 
 -- ---- what the array holds, by the flag that the test gave
 decoded : (f : Bool) (s : List ℕ) → f ≡ fits port-max s → f ≡ true → decode s ≡ a-port (port-in s)
@@ -59,11 +60,11 @@ late-test c known s x p = go known (valid p)
     go false false = refl
 
 pub call-on-port : (z : Lent) (f : Bool) (kind a b : ℕ) (s : List ℕ) → f ≡ fits port-max s → f ≡ true
-    → z ≡ cond (leb 1 kind && leb kind 7) (call-left s (direct (command kind a b) (port-in s))) (cond (valid (port-in s)) (lent (refusal 7) s) (lent (refusal 8) s))
+    → z ≡ cond (leb 1 kind && leb kind 7) (call-left s (direct (command-of kind a b) (port-in s))) (cond (valid (port-in s)) (lent (refusal 7) s) (lent (refusal 8) s))
     → z ≡ call kind a b s
 unfolding call
 call-on-port z f kind a b s e t h =
-    h ∙ late-test (command kind a b) (leb 1 kind && leb kind 7) s (lent (refusal 7) s) (port-in s) ∙ sym (ap (call-on kind a b s) (decoded f s e t))
+    h ∙ late-test (command-of kind a b) (leb 1 kind && leb kind 7) s (lent (refusal 7) s) (port-in s) ∙ sym (ap (call-on kind a b s) (decoded f s e t))
 
 pub valid-of : (r : Bool) (p q : Port) → r ≡ valid p → p ≡ q → r ≡ valid q
 valid-of r p q h e = h ∙ ap valid e

@@ -12,13 +12,14 @@ use Rattle.port.specs.declared.Drive.the-variants.{Floating, Low, High}
 use Rattle.port.specs.declared.Clock.{Clock}
 use Rattle.port.specs.declared.Clock.the-variants.{Free, Driven}
 use Rattle.port.specs.declared.Pins.{Pins}
-use Rattle.command.specs.declared.Command.{Command}
-use Rattle.command.specs.declared.Command.the-variants.{Read, Write, Wait, Line, Pins, Power, Inside}
+use Rattle.command.specs.Command.{command-of}
 use Rattle.port.specs.Calls.{Answer, done, refused, direct}
 use Rattle.port.specs.Pins.{pins, interrupt, level-number}
 use Rattle.port.specs.Power.{fresh}
 use Rattle.port.specs.Valid.{valid}
-use Rattle.player.specs.Play.{Run, play}
+use Rattle.port.specs.declared.Port.{Port}
+use Rattle.machine.specs.Machine.{Run}
+use Rattle.player.specs.Play.{play}
 use Rattle.capi.specs.State.{Decoded, a-port, nothing, decode, encode, port-max}
 
 -- an answer, and the array after it
@@ -33,16 +34,6 @@ abbrev pub refusal : ℕ → ℕ
 refusal n = 256 + n
 
 -- ---- sci3_call
--- the call of a kind; an operand that the kind does not have is not looked at
-unfoldable pub command : ℕ → ℕ → ℕ → Command
-command kind a b =
-    cond (eqb kind 1) (Read a)
-    (cond (eqb kind 2) (Write a b)
-    (cond (eqb kind 3) (Wait a)
-    (cond (eqb kind 4) (Line a)
-    (cond (eqb kind 5) (Pins a b)
-    (cond (eqb kind 6) (Power a) Inside)))))
-
 -- the value read, or 0, and the port after the call
 abbrev pub call-left : List ℕ → Answer → Lent
 call-left s (done v q) = lent v (encode q)
@@ -52,7 +43,7 @@ call-left s (refused n offset q) = lent (refusal n) s
 abbrev pub call-on : ℕ → ℕ → ℕ → List ℕ → Decoded → Lent
 call-on kind a b s nothing = lent (refusal 8) s
 call-on kind a b s (a-port p) =
-    cond (valid p) (cond (leb 1 kind && leb kind 7) (call-left s (direct (command kind a b) p)) (lent (refusal 7) s)) (lent (refusal 8) s)
+    cond (valid p) (cond (leb 1 kind && leb kind 7) (call-left s (direct (command-of kind a b) p)) (lent (refusal 7) s)) (lent (refusal 8) s)
 
 unfoldable pub call : ℕ → ℕ → ℕ → List ℕ → Lent
 call kind a b s = call-on kind a b s (decode s)
@@ -105,8 +96,8 @@ abbrev pub playing : ℕ → List ℕ → List ℕ → List ℕ → Playing
 playing n t s l = record { number = n; told = t; state = s; log = l }
 
 -- by 8 the array stays as it was
-abbrev pub run-left : List ℕ → Run → Playing
-run-left s r = playing (r .number) (r .offset ∷ r .used ∷ []) (cond (eqb (r .number) 8) s (encode (r .port))) (r .log)
+abbrev pub run-left : List ℕ → Run Port → Playing
+run-left s r = playing (r .number) (r .offset ∷ r .used ∷ []) (cond (eqb (r .number) 8) s (encode (r .state))) (r .log)
 
 abbrev pub play-on : List ℕ → List ℕ → List ℕ → Decoded → Playing
 play-on s script log nothing = playing 8 (0 ∷ 0 ∷ []) s log

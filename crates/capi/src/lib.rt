@@ -8,7 +8,8 @@ ghost use lib.ListN.{length, take};
 ghost use Rattle.frame.specs.Frame.{one-if};
 ghost use Rattle.shift.specs.Sender.{tx-next};
 ghost use Rattle.port.specs.Calls.{answer, direct};
-ghost use Rattle.capi.specs.Exports.{lent, command, call-left, call, drive-number, clock-number, pins-number, pins-answer, interrupt-answer, fresh-state, playing, played};
+ghost use Rattle.command.specs.Command.{command-of};
+ghost use Rattle.capi.specs.Exports.{lent, call-left, call, drive-number, clock-number, pins-number, pins-answer, interrupt-answer, fresh-state, playing, played};
 ghost use Rattle.capi.specs.State.{due-tag, due-half, holding-tag, held-byte, holding-list, format-list, no-format, no-character, no-rx, tx-tag, loaded-tag, loaded-character, tx-character, tx-cell, tx-loaded, tx-list, position-number, rx-tag, rx-word, rx-list, register-list, power-list, line-list, encode, due-max, holding-max, format-max, character-max, tx-max, word-max, rx-max, port-max, fits, due-in, holding-in, format-in, character-in, tail-of, tx-of, tx-in, position-of, word-in, rx-in, port-of, port-in};
 use frame::Format;
 use port::Called;
@@ -653,7 +654,7 @@ fn store(s: &mut [u64], p: Port)
 
 // ---- the exported functions
 fn direct(p: Port, kind: u32, a: u32, b: u32) -> Called
-    ensures { λ r. ⌜ answer r ≡ direct (command kind a b) p ⌝ }
+    ensures { λ r. ⌜ answer r ≡ direct (command-of kind a b) p ⌝ }
 {
     match kind {
         1 => p.read(a),

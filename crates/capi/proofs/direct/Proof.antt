@@ -1,12 +1,10 @@
 use borrow.Author.Needs.{needs}
 use Rattle.frame.proofs.Choose.{choose}
 use Rattle.capi.proofs.Answers.{direct-of}
-use Rattle.capi.specs.Exports.{command}
 use Rattle.capi.proofs.direct.Statement.{statement}
 use Rattle.capi.proofs.direct.Tie as tie
 
 pub direct-spec : {M : Type 1} → statement M
-unfolding command
 direct-spec =
     tie.close
     (tie.spec
