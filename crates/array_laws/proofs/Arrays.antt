@@ -119,7 +119,7 @@ unfolding FailingRefused call play
 failing-refused s p d e = (
   λ kind a b. ap (call-on kind a b s) d
       ∙ ap (λ (v : Bool). cond v (cond (leb 1 kind && leb kind 7) (call-left s (direct (command-of kind a b) p)) (lent (refusal 7) s)) (lent (refusal 8) s)) e,
-  λ script log. on-play s p d script log ∙ ap (λ (v : Bool). run-left s (cond v (play-items p (items script 0) log) (ended 8 0 p log))) e,
+  λ script log. on-play s p d script log ∙ ap (λ (v : Bool). run-left s (cond v (play-items room act p (items script) log) (ended 8 0 p log))) e,
 )
 
 -- ---- actions keep a port typed

@@ -6,8 +6,8 @@
 ghost use Prim.Native.Nat.{_≤_};
 use capi::sci3_fresh;
 use capi::sci3_play;
+use command::Command;
 use player::RECORD;
-use script::Command;
 use script::Written;
 
 const LOG: usize = 40960;
