@@ -6,7 +6,6 @@ ghost use mathlib.Core.List.{_++_};
 ghost use lib.Dec.{eqb};
 ghost use lib.ListN.{length, take};
 ghost use Rattle.frame.specs.Frame.{one-if};
-ghost use Rattle.shift.specs.Sender.{tx-next};
 ghost use Rattle.port.specs.Calls.{answer, direct};
 ghost use Rattle.command.specs.Command.{command-of};
 ghost use Rattle.capi.specs.Exports.{lent, call-left, call, drive-number, clock-number, pins-number, pins-answer, interrupt-answer, fresh-state, playing, played};
@@ -264,23 +263,6 @@ fn tx_cell(t: Tx) -> u64
     }
 }
 
-fn tx_next(t: Tx) -> Due
-    ensures { λ r. ⌜ r ≡ tx-next t ⌝ }
-{
-    match t {
-        Tx::Off => Due::Never,
-        Tx::Blocked { character: _ } => Due::Never,
-        Tx::Mark { next } => Due::At(next),
-        Tx::Start { character: _, next } => Due::At(next),
-        Tx::Data {
-            character: _,
-            cell: _,
-            next,
-        } => next,
-        Tx::Tail { loaded: _, next } => next,
-    }
-}
-
 fn tx_loaded(t: Tx) -> u64
     ensures { λ r. ⌜ r ≡ tx-loaded t ⌝ }
 {
@@ -306,7 +288,7 @@ fn tx_words(t: Tx) -> [u64; 12]
 {
     let character = tx_character(t);
     let format = format_words(character.format);
-    let next = tx_next(t);
+    let next = t.next();
     [
         tx_tag(t),
         format[0],
