@@ -1,5 +1,5 @@
 -- A definition by clauses on an enum, at a case that is known: the clause that it selects.
--- Written by tools/generate: do not edit.
+-- Written by tools/generate from other text, which it follows: it need not be read, and is not to be edited.
 -- Assumes nothing.
 use mathlib.Core.Path.{_≡_, ap, sym, _∙_}
 use Prim.Native.Nat.{ℕ}

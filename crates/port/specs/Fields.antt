@@ -1,5 +1,5 @@
 -- The port with one field changed, for each field.
--- Written by tools/generate: do not edit.
+-- Written by tools/generate from other text, which it follows: it need not be read, and is not to be edited.
 -- Assumes nothing.
 use Prim.Native.Nat.{ℕ}
 use mathlib.Core.Bool.{Bool}
