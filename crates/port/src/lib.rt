@@ -704,7 +704,7 @@ impl Port {
         requires { ⌜ Ready (self .half) self ⌝ }
         ensures { λ r. ⌜ r ≡ after-store self ⌝ }
     {
-        let port = self.load_tail().started();
+        let port = self.load_tail().start_held();
         if port.arms_now() {
             return port.armed().refresh_sync_clock();
         }
@@ -867,7 +867,7 @@ impl Port {
     }
 
     // `try_start` after a store. Most stores start nothing, and the test is cheaper than the call.
-    fn started(self) -> Port
+    fn start_held(self) -> Port
         requires { ⌜ (self .half ≤ limit) × Sendable (self .tx) ⌝ }
         ensures { λ r. ⌜ r ≡ try-start self ⌝ }
     {

@@ -1,12 +1,12 @@
 use borrow.Author.Needs.{needs}
 use Rattle.port.proofs.Steps.{start-f}
 use Rattle.port.specs.Sender.{try-start}
-use Rattle.port.proofs.Port.started.Statement.{statement}
-use Rattle.port.proofs.Port.started.Tie as tie
+use Rattle.port.proofs.Port.start_held.Statement.{statement}
+use Rattle.port.proofs.Port.start_held.Tie as tie
 
-pub started-spec : {M : Type 1} → statement M
+pub start-held-spec : {M : Type 1} → statement M
 unfolding try-start
-started-spec =
+start-held-spec =
     tie.close
     (tie.spec
     (λ c κs. search needs)
