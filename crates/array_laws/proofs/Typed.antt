@@ -1,4 +1,4 @@
--- A port that passes the field test, and whose other numbers are in range (laws' Ranges.antt), is typed; so every grown port is.
+-- A port that passes the field test, and whose other numbers are in range (port_laws' Ranges.antt), is typed; so every grown port is.
 -- Assumes nothing.
 use mathlib.Core.Path.{_≡_, refl, subst}
 use Prim.Native.Nat.{ℕ, _^_, _≤_, _<_}

@@ -1,5 +1,5 @@
 -- What the port's private steps ask of it, so that no sum wraps and no shift is too wide. No caller of a public call is asked any of it: the field test
--- implies it (proofs/Checked.antt). What is asked of words and formats is in the crate words.
+-- implies it (proofs/Checked.antt). What is asked of words and formats is in the crate shift.
 -- Assumes nothing.
 use mathlib.Core.Path.{_≡_}
 use Prim.Native.Nat.{ℕ, _≤_}

@@ -1,4 +1,4 @@
--- The receiver (document 01, "Receiver"): when a word begins, when it is sampled, and what a whole word does. What a sample makes of a word is in the crate words.
+-- The receiver (document 01, "Receiver"): when a word begins, when it is sampled, and what a whole word does. What a sample makes of a word is in the crate shift.
 -- Assumes nothing.
 use Prim.Native.Nat.{suc, _%_, _^_}
 use mathlib.Core.Bool.{Bool, cond, not, _&&_}

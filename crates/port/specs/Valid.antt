@@ -1,4 +1,4 @@
--- The field test (document 01: number 8 is given when it fails), clause by clause; the clauses of words and due halves are in the crate words.
+-- The field test (document 01: number 8 is given when it fails), clause by clause; the clauses of words and due halves are in the crate shift.
 -- Assumes nothing.
 use Prim.Native.Nat.{ℕ}
 use mathlib.Core.Bool.{Bool, not, _&&_}

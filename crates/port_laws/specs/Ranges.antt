@@ -1,4 +1,4 @@
--- The numbers of a port stay in the ranges of their declared types. The field test (sci's Valid.antt) bounds half counts, formats, words, positions and
+-- The numbers of a port stay in the ranges of their declared types. The field test (port's Valid.antt) bounds half counts, formats, words, positions and
 -- three registers; here are the others: seven registers' bytes, the held byte, the received word's value and error, the two tallies.
 -- Proved in proofs/Ranges.antt.
 -- Assumes nothing.

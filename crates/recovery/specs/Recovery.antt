@@ -4,7 +4,7 @@
 -- Outside.antt conditions that a caller can check, Layers.antt how it carries over to scripts and exported calls; proofs/Example.antt has a list, with a noisy
 -- history, that meets all that is asked.
 -- The words of document 01 are in quotation marks. Where the claim is stronger than they are, a comment says so.
--- Of frame and sci: `has x m` says that x has a bit of the mask m, `differ` that exactly one of two holds, `bit n` that n is not 0; `after a` is the port that
+-- Of frame and port: `has x m` says that x has a bit of the mask m, `differ` that exactly one of two holds, `bit n` that n is not 0; `after a` is the port that
 -- the answer a hands back; `internal p`: the port p runs on its internal clock; `format-of p`: the format of its SMR and SEMR.
 -- Assumes nothing.
 use mathlib.Core.Path.{_≡_}

@@ -168,7 +168,7 @@ impl Tx {
 }
 
 impl Rx {
-    // The position is touched in these, and in the crate sci's functions of a received word: everything else asks them.
+    // The position is touched in these, and in the crate port's functions of a received word: everything else asks them.
     pub fn falling(self) -> bool
         ensures { λ r. ⌜ r ≡ falling self ⌝ }
     {
