@@ -26,7 +26,7 @@ use Rattle.shift.specs.declared.Tx.the-variants.{Off, Blocked, Mark, Start, Dat
 use Rattle.shift.specs.declared.Receiver.{Receiver}
 use Rattle.shift.specs.declared.Receiver.the-variants.{Idle, Busy}
 use Rattle.shift.specs.Valid.{character-valid}
-use Rattle.shift.specs.Ready.{PlacedIn}
+use Rattle.shift.specs.Private.Ready.{PlacedIn}
 use Rattle.shift.proofs.SignedLaws.{place-mag}
 use Rattle.port.specs.declared.Port.{Port}
 use Rattle.port.specs.Calls.{run}

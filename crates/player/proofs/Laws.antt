@@ -32,14 +32,14 @@ use Rattle.script.specs.Command.{command-at}
 use Rattle.script.specs.Items.{reading, read-at, script-items}
 use Rattle.script.proofs.Items.{command-moves}
 use Rattle.machine.specs.Machine.{Act, acts, refuses, Run, ended, recorded, play-items, Sound}
-use Rattle.machine.specs.Step.{Turn, onward, stopped, met, step}
+use Rattle.machine.specs.Private.Step.{Turn, onward, stopped, met, step}
 use Rattle.machine.proofs.Turns.{GoesOn, goes-on, stands, finishes}
 use Rattle.player.specs.declared.Reason.{Reason}
 use Rattle.player.specs.declared.Stepped.{Stepped}
 use Rattle.player.specs.declared.Stepped.the-variants.{Onward, Stopped}
 use Rattle.player.specs.declared.End.the-variants.{Accepted, Refused}
 use Rattle.player.specs.Play.{record-length, record-of, room, items, act-of, act, play, reason-number, ran}
-use Rattle.player.specs.Step.{stepped, port-step, play-on}
+use Rattle.player.specs.Private.Step.{stepped, port-step, play-on}
 
 -- ---- one command
 

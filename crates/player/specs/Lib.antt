@@ -1,2 +1,2 @@
 pub mod Play
-pub mod Step
+pub mod Private

@@ -8,7 +8,7 @@ ghost use Rattle.frame.specs.Frame.{one-if};
 ghost use Rattle.port.specs.Calls.{called, answer};
 ghost use Rattle.port.specs.Valid.{valid};
 ghost use Rattle.player.specs.Play.{record-length, record-of, play, reason-number, end-number, end-offset, ran};
-ghost use Rattle.player.specs.Step.{stepped, port-step, play-on};
+ghost use Rattle.player.specs.Private.Step.{stepped, port-step, play-on};
 use command::Command;
 use port::Called;
 use port::Outcome;

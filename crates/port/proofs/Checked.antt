@@ -26,8 +26,8 @@ use Rattle.port.specs.Receiver.{arms, arm-receive-on, arm-receive}
 use Rattle.port.specs.Pins.{receive-input}
 use Rattle.shift.specs.Valid.{due-at, due-either, due-by, character-valid, loaded-valid, cell-valid, tx-valid, position-valid, word-in-place, rx-valid}
 use Rattle.port.specs.Valid.{limit, registers-valid, valid}
-use Rattle.shift.specs.Ready.{Bounded, Plain, Placed, PlacedIn, LoadedBounded, Below, Sendable}
-use Rattle.port.specs.Ready.{Ready}
+use Rattle.shift.specs.Private.Ready.{Bounded, Plain, Placed, PlacedIn, LoadedBounded, Below, Sendable}
+use Rattle.port.specs.Private.Ready.{Ready}
 use Rattle.port.proofs.Steps.{valid-bounded}
 use Rattle.branches.proofs.Branches.{both-arms}
 

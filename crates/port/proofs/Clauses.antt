@@ -20,10 +20,10 @@ use Rattle.shift.specs.declared.Sampled.{Sampled}
 use Rattle.shift.specs.declared.Sampled.the-variants.{Dropped, Onward, Whole}
 use Rattle.port.specs.declared.Port.{Port}
 use Rattle.port.specs.Clocked.{receive-bit-on, finish-clocked, tail-ends-on, shift-clocked, shift-out-on}
+use Rattle.port.specs.Private.Skip.{arms-on, starts-on}
 use Rattle.port.specs.Receiver.{after-sample, advance-rx-on}
 use Rattle.port.specs.Registers.{fill-tail, load-tail-on}
 use Rattle.port.specs.Sender.{loaded-on, try-start-on, send-step-on}
-use Rattle.port.specs.Skip.{arms-on, starts-on}
 
 pub receive-bit-on-idle : (x : Receiver) (y0 : Port) (z : Port) → x ≡ Idle → z ≡ receive-bit-on Idle y0 → z ≡ receive-bit-on x y0
 receive-bit-on-idle x y0 z h e = e ∙ sym (ap (λ (t : Receiver). receive-bit-on t y0) h)
@@ -78,6 +78,30 @@ shift-out-on-data x c0 c1 c2 y0 z h e = e ∙ sym (ap (λ (t : Tx). shift-out-on
 
 pub shift-out-on-tail : (x : Tx) (c0 : Loaded) (c1 : Due) (y0 : Port) (z : Port) → x ≡ Tail c0 c1 → z ≡ shift-out-on (Tail c0 c1) y0 → z ≡ shift-out-on x y0
 shift-out-on-tail x c0 c1 y0 z h e = e ∙ sym (ap (λ (t : Tx). shift-out-on t y0) h)
+
+pub arms-on-idle : (x : Receiver) (y0 : Port) (z : Bool) → x ≡ Idle → z ≡ arms-on Idle y0 → z ≡ arms-on x y0
+arms-on-idle x y0 z h e = e ∙ sym (ap (λ (t : Receiver). arms-on t y0) h)
+
+pub arms-on-busy : (x : Receiver) (c0 : Rx) (y0 : Port) (z : Bool) → x ≡ Busy c0 → z ≡ arms-on (Busy c0) y0 → z ≡ arms-on x y0
+arms-on-busy x c0 y0 z h e = e ∙ sym (ap (λ (t : Receiver). arms-on t y0) h)
+
+pub starts-on-off : (x : Tx) (y0 : Port) (z : Bool) → x ≡ Off → z ≡ starts-on Off y0 → z ≡ starts-on x y0
+starts-on-off x y0 z h e = e ∙ sym (ap (λ (t : Tx). starts-on t y0) h)
+
+pub starts-on-blocked : (x : Tx) (c0 : Character) (y0 : Port) (z : Bool) → x ≡ Blocked c0 → z ≡ starts-on (Blocked c0) y0 → z ≡ starts-on x y0
+starts-on-blocked x c0 y0 z h e = e ∙ sym (ap (λ (t : Tx). starts-on t y0) h)
+
+pub starts-on-mark : (x : Tx) (c0 : ℕ) (y0 : Port) (z : Bool) → x ≡ Mark c0 → z ≡ starts-on (Mark c0) y0 → z ≡ starts-on x y0
+starts-on-mark x c0 y0 z h e = e ∙ sym (ap (λ (t : Tx). starts-on t y0) h)
+
+pub starts-on-start : (x : Tx) (c0 : Character) (c1 : ℕ) (y0 : Port) (z : Bool) → x ≡ Start c0 c1 → z ≡ starts-on (Start c0 c1) y0 → z ≡ starts-on x y0
+starts-on-start x c0 c1 y0 z h e = e ∙ sym (ap (λ (t : Tx). starts-on t y0) h)
+
+pub starts-on-data : (x : Tx) (c0 : Character) (c1 : ℕ) (c2 : Due) (y0 : Port) (z : Bool) → x ≡ Data c0 c1 c2 → z ≡ starts-on (Data c0 c1 c2) y0 → z ≡ starts-on x y0
+starts-on-data x c0 c1 c2 y0 z h e = e ∙ sym (ap (λ (t : Tx). starts-on t y0) h)
+
+pub starts-on-tail : (x : Tx) (c0 : Loaded) (c1 : Due) (y0 : Port) (z : Bool) → x ≡ Tail c0 c1 → z ≡ starts-on (Tail c0 c1) y0 → z ≡ starts-on x y0
+starts-on-tail x c0 c1 y0 z h e = e ∙ sym (ap (λ (t : Tx). starts-on t y0) h)
 
 pub after-sample-dropped : (x : Sampled) (y0 : Port) (z : Port) → x ≡ Dropped → z ≡ after-sample Dropped y0 → z ≡ after-sample x y0
 after-sample-dropped x y0 z h e = e ∙ sym (ap (λ (t : Sampled). after-sample t y0) h)
@@ -160,30 +184,6 @@ send-step-on-data x c0 c1 c2 y0 z h e = e ∙ sym (ap (λ (t : Tx). send-step-on
 pub send-step-on-tail : (x : Tx) (c0 : Loaded) (c1 : Due) (y0 : Port) (z : Port) → x ≡ Tail c0 c1 → z ≡ send-step-on (Tail c0 c1) y0 → z ≡ send-step-on x y0
 send-step-on-tail x c0 c1 y0 z h e = e ∙ sym (ap (λ (t : Tx). send-step-on t y0) h)
 
-pub arms-on-idle : (x : Receiver) (y0 : Port) (z : Bool) → x ≡ Idle → z ≡ arms-on Idle y0 → z ≡ arms-on x y0
-arms-on-idle x y0 z h e = e ∙ sym (ap (λ (t : Receiver). arms-on t y0) h)
-
-pub arms-on-busy : (x : Receiver) (c0 : Rx) (y0 : Port) (z : Bool) → x ≡ Busy c0 → z ≡ arms-on (Busy c0) y0 → z ≡ arms-on x y0
-arms-on-busy x c0 y0 z h e = e ∙ sym (ap (λ (t : Receiver). arms-on t y0) h)
-
-pub starts-on-off : (x : Tx) (y0 : Port) (z : Bool) → x ≡ Off → z ≡ starts-on Off y0 → z ≡ starts-on x y0
-starts-on-off x y0 z h e = e ∙ sym (ap (λ (t : Tx). starts-on t y0) h)
-
-pub starts-on-blocked : (x : Tx) (c0 : Character) (y0 : Port) (z : Bool) → x ≡ Blocked c0 → z ≡ starts-on (Blocked c0) y0 → z ≡ starts-on x y0
-starts-on-blocked x c0 y0 z h e = e ∙ sym (ap (λ (t : Tx). starts-on t y0) h)
-
-pub starts-on-mark : (x : Tx) (c0 : ℕ) (y0 : Port) (z : Bool) → x ≡ Mark c0 → z ≡ starts-on (Mark c0) y0 → z ≡ starts-on x y0
-starts-on-mark x c0 y0 z h e = e ∙ sym (ap (λ (t : Tx). starts-on t y0) h)
-
-pub starts-on-start : (x : Tx) (c0 : Character) (c1 : ℕ) (y0 : Port) (z : Bool) → x ≡ Start c0 c1 → z ≡ starts-on (Start c0 c1) y0 → z ≡ starts-on x y0
-starts-on-start x c0 c1 y0 z h e = e ∙ sym (ap (λ (t : Tx). starts-on t y0) h)
-
-pub starts-on-data : (x : Tx) (c0 : Character) (c1 : ℕ) (c2 : Due) (y0 : Port) (z : Bool) → x ≡ Data c0 c1 c2 → z ≡ starts-on (Data c0 c1 c2) y0 → z ≡ starts-on x y0
-starts-on-data x c0 c1 c2 y0 z h e = e ∙ sym (ap (λ (t : Tx). starts-on t y0) h)
-
-pub starts-on-tail : (x : Tx) (c0 : Loaded) (c1 : Due) (y0 : Port) (z : Bool) → x ≡ Tail c0 c1 → z ≡ starts-on (Tail c0 c1) y0 → z ≡ starts-on x y0
-starts-on-tail x c0 c1 y0 z h e = e ∙ sym (ap (λ (t : Tx). starts-on t y0) h)
-
 pub ruleset receive-bit-on-clauses = (receive-bit-on-idle, receive-bit-on-busy)
 
 pub ruleset finish-clocked-clauses = (finish-clocked-never, finish-clocked-at)
@@ -193,6 +193,10 @@ pub ruleset tail-ends-on-clauses = (tail-ends-on-off, tail-ends-on-blocked, tail
 pub ruleset shift-clocked-clauses = (shift-clocked-never, shift-clocked-at)
 
 pub ruleset shift-out-on-clauses = (shift-out-on-off, shift-out-on-blocked, shift-out-on-mark, shift-out-on-start, shift-out-on-data, shift-out-on-tail)
+
+pub ruleset arms-on-clauses = (arms-on-idle, arms-on-busy)
+
+pub ruleset starts-on-clauses = (starts-on-off, starts-on-blocked, starts-on-mark, starts-on-start, starts-on-data, starts-on-tail)
 
 pub ruleset after-sample-clauses = (after-sample-dropped, after-sample-onward, after-sample-whole)
 
@@ -207,7 +211,3 @@ pub ruleset loaded-on-clauses = (loaded-on-empty, loaded-on-byte)
 pub ruleset try-start-on-clauses = (try-start-on-off, try-start-on-blocked, try-start-on-mark, try-start-on-start, try-start-on-data, try-start-on-tail)
 
 pub ruleset send-step-on-clauses = (send-step-on-off, send-step-on-blocked, send-step-on-mark, send-step-on-start, send-step-on-data, send-step-on-tail)
-
-pub ruleset arms-on-clauses = (arms-on-idle, arms-on-busy)
-
-pub ruleset starts-on-clauses = (starts-on-off, starts-on-blocked, starts-on-mark, starts-on-start, starts-on-data, starts-on-tail)

@@ -44,8 +44,8 @@ use Rattle.port.specs.Power.{fresh, reset-registers, reset, with-power}
 use Rattle.port.specs.Pins.{receive-input}
 use Rattle.shift.specs.Valid.{position-valid}
 use Rattle.port.specs.Valid.{limit}
-use Rattle.shift.specs.Ready.{Bounded, Plain, Placed, PlacedIn, LoadedBounded, Sendable}
-use Rattle.port.specs.Ready.{Ready}
+use Rattle.shift.specs.Private.Ready.{Bounded, Plain, Placed, PlacedIn, LoadedBounded, Sendable}
+use Rattle.port.specs.Private.Ready.{Ready}
 use Rattle.port.proofs.Steps.{valid-bounded}
 
 -- the same as a rule for `search`, which then builds the record of each result

@@ -30,7 +30,7 @@ use Rattle.shift.specs.declared.Sampled.the-variants.{Dropped, Onward, Whole}
 use Rattle.shift.specs.Due.{absent, due-now, due-or}
 use Rattle.shift.specs.Sender.{holds, tx-next, tx-clocked}
 use Rattle.shift.specs.Receiver.{sample-at, sample, rx-next, rx-clocked, rx-due-on}
-use Rattle.shift.specs.Ready.{Bounded, LoadedBounded, Sendable, PlacedIn}
+use Rattle.shift.specs.Private.Ready.{Bounded, LoadedBounded, Sendable, PlacedIn}
 use Rattle.port.specs.declared.Port.{Port}
 use Rattle.port.specs.Fields.{with-tx, with-rx, with-sync-next}
 use Rattle.port.specs.Baud.{format-of, external, counted, next-fall, boundary}
@@ -38,9 +38,9 @@ use Rattle.port.specs.Receiver.{input-level, error-free, arms, arm-recei
 use Rattle.port.specs.Sender.{character, loaded-on, preloaded-on, loaded, preloaded, begin, start-at, start-loaded, try-start-on, try-start, one-sent, finish-tail, next-cell, send-step-on, advance-tx}
 use Rattle.port.specs.Clocked.{sync-needed, with-clock, refresh-sync-clock, receive-bit-on, receive-bit, tail-ends-on, tail-ends, shift-out-on, shift-out, sync-edge}
 use Rattle.port.specs.Half.{process-basic, sync, clocked-edge, advance, half-step}
-use Rattle.port.specs.Skip.{arms-on, nothing-due, clock-fresh}
+use Rattle.port.specs.Private.Skip.{arms-on, nothing-due, clock-fresh}
 use Rattle.port.specs.Valid.{limit, valid}
-use Rattle.port.specs.Ready.{Ready}
+use Rattle.port.specs.Private.Ready.{Ready}
 use Rattle.port.proofs.Steps.{product≤}
 use Rattle.port.proofs.Keep.{bounded-now, keep-counted, keep-advance-tx, keep-advance-rx, keep-process-basic}
 use Rattle.port.proofs.Checked.{valid-ready}

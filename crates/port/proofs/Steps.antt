@@ -38,7 +38,7 @@ use Rattle.shift.specs.declared.Sampled.the-variants.{Onward, Whole}
 use Rattle.shift.specs.declared.Tx.{Tx}
 use Rattle.shift.specs.declared.Tx.the-variants.{Off, Blocked, Mark, Start, Data, Tail}
 use Rattle.port.specs.Receiver.{input-level, arms, error-free, arm-receive-on, arm-receive, advance-rx}
-use Rattle.port.specs.Skip.{arms-on, starts-on}
+use Rattle.port.specs.Private.Skip.{arms-on, starts-on}
 use Rattle.port.specs.Fields.{with-ssr, with-holding, with-tx, with-rx, with-edge, with-transmitted}
 use Rattle.port.specs.Baud.{format-of, next-fall, boundary}
 use Rattle.shift.specs.Receiver.{armed, clocked-word}
@@ -48,7 +48,7 @@ use Rattle.port.specs.Sender.{begin, start-at, try-start-on, try-start, 
 use Rattle.port.specs.Power.{fresh, carried, reset-registers, reset, with-power}
 use Rattle.port.specs.Half.{process-basic, uncounted}
 use Rattle.port.specs.Valid.{limit}
-use Rattle.shift.specs.Ready.{Bounded, Placed, PlacedIn, LoadedBounded, Below, Sendable, Plain}
+use Rattle.shift.specs.Private.Ready.{Bounded, Placed, PlacedIn, LoadedBounded, Below, Sendable, Plain}
 
 -- ---- tests
 -- an arm of a `match` on an address

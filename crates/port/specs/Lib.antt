@@ -4,11 +4,10 @@ pub mod Receiver
 pub mod Sender
 pub mod Clocked
 pub mod Half
-pub mod Skip
 pub mod Registers
 pub mod Power
 pub mod Pins
 pub mod Valid
 pub mod Calls
-pub mod Ready
 pub mod Facts
+pub mod Private

@@ -20,7 +20,7 @@ use Rattle.shift.specs.declared.Receiver.{Receiver}
 use Rattle.shift.specs.declared.Receiver.the-variants.{Idle, Busy}
 use Rattle.shift.specs.declared.Sampled.{Sampled}
 use Rattle.shift.specs.declared.Sampled.the-variants.{Dropped, Onward, Whole}
-use Rattle.shift.specs.Ready.{PlacedIn}
+use Rattle.shift.specs.Private.Ready.{PlacedIn}
 use Rattle.shift.specs.Valid.{position-valid}
 use Rattle.shift.specs.Due.{due-now}
 use Rattle.shift.specs.Sender.{holds}
@@ -35,7 +35,7 @@ use Rattle.port.specs.Half.{process-basic, sync, clocked-edge, advance, half-st
 use Rattle.port.specs.Registers.{read, scr-tx, write-scr, write-tdr, cleared, status-with, status-write, stored, connect, load-tail, after-store, write}
 use Rattle.port.specs.Power.{fresh, reset-registers, reset, with-power, set-power}
 use Rattle.port.specs.Pins.{receive-input, external-edge, pins-change, input-pins}
-use Rattle.port.specs.Ready.{Ready}
+use Rattle.port.specs.Private.Ready.{Ready}
 use Rattle.port.specs.Valid.{limit}
 use Rattle.port_laws.specs.Laws.{wrap}
 use Rattle.port_laws.specs.Ranges.{HeldInRange, WordInRange, Ranges, InRange}

@@ -8,7 +8,7 @@ use lib.ListN.{length, take, drop, length-drop}
 use borrow.Rule.Slice.PartAt.{part-to-end}
 use Rattle.sci3.specs.declared.Input.{Input}
 use Rattle.sci3.specs.declared.Input.the-variants.{Bytes}
-use Rattle.sci3.specs.Input.{Within}
+use Rattle.sci3.specs.Private.Input.{Within}
 
 pub bytes-within : (i : Input) (n room : ℕ) → Within i room → i ≡ Bytes n → n ≤ room
 bytes-within i n room w e = subst (λ (j : Input). Within j room) e w

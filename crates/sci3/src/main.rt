@@ -1,7 +1,7 @@
 // The program: plays the script on standard input and prints it (document 01, "A script comes in"). What it prints is report's `printout`, which is proved;
 // reading and writing are here.
 ghost use lib.ListN.{length};
-ghost use Rattle.sci3.specs.Input.{Within};
+ghost use Rattle.sci3.specs.Private.Input.{Within};
 
 // What reading finds: so many bytes, or that standard input cannot be read.
 pub enum Input {

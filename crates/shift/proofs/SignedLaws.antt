@@ -24,7 +24,7 @@ use Rattle.shift.specs.declared.Sampled.{Sampled}
 use Rattle.shift.specs.declared.Sampled.the-variants.{Dropped, Onward, Whole}
 use Rattle.shift.specs.Receiver.{next-position, bit-at, started, stepped, stopped, sample-at, sample, last-bit}
 use Rattle.shift.specs.Valid.{position-valid}
-use Rattle.shift.specs.Ready.{Placed, Shiftable, eqZ, falling, starting, in-data, at-parity}
+use Rattle.shift.specs.Private.Ready.{Placed, Shiftable, eqZ, falling, starting, in-data, at-parity}
 
 -- ---- a signed byte and its bits
 -- two tests that hold together are the same

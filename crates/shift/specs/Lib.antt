@@ -2,4 +2,4 @@ pub mod Due
 pub mod Sender
 pub mod Receiver
 pub mod Valid
-pub mod Ready
+pub mod Private

@@ -6,7 +6,7 @@ ghost use Rattle.shift.specs.Due.{absent, due-or, within};
 ghost use Rattle.shift.specs.Sender.{holds, tx-next, tx-clocked};
 ghost use Rattle.shift.specs.Receiver.{armed, parity-error, framing-error, stopped, clocked-word, last-bit, rx-next, rx-clocked};
 ghost use Rattle.shift.specs.Valid.{due-at, due-either, due-by, character-valid, loaded-valid, cell-valid, tx-valid, position-valid, word-in-place, rx-valid};
-ghost use Rattle.shift.specs.Ready.{falling, starting};
+ghost use Rattle.shift.specs.Private.Ready.{falling, starting};
 use frame::Format;
 
 // A half at which something falls due, if any.

@@ -11,7 +11,7 @@ use mathlib.Core.Bool.{true}
 use Rattle.port.specs.Valid.{valid}
 use Rattle.machine.specs.Machine.{recorded}
 use Rattle.machine.proofs.Turns.{none-recorded}
-use Rattle.player.specs.Step.{play-on}
+use Rattle.player.specs.Private.Step.{play-on}
 use Rattle.store.proofs.Laws.{same-long}
 use Rattle.player.proofs.Laws.{from-at, Goes, port-goes-on, port-stands, port-passes, port-finishes}
 use Rattle.player.proofs.play_on.Statement.{statement}

@@ -1,6 +1,6 @@
 use borrow.Author.Needs.{needs}
 use Rattle.shift.proofs.SignedLaws.{at-data, and-of}
-use Rattle.shift.specs.Ready.{at-parity}
+use Rattle.shift.specs.Private.Ready.{at-parity}
 use Rattle.port.proofs.at_parity.Statement.{statement}
 use Rattle.port.proofs.at_parity.Tie as tie
 

@@ -1,6 +1,6 @@
 use borrow.Author.Needs.{needs}
 use Rattle.shift.proofs.SignedLaws.{below-data}
-use Rattle.shift.specs.Ready.{in-data}
+use Rattle.shift.specs.Private.Ready.{in-data}
 use Rattle.port.proofs.in_data.Statement.{statement}
 use Rattle.port.proofs.in_data.Tie as tie
 

@@ -1,6 +1,6 @@
 use Rattle.frame.proofs.Choose.{choose}
 use Rattle.shift.proofs.Steps.{bools}
-use Rattle.port.specs.Skip.{clock-fresh}
+use Rattle.port.specs.Private.Skip.{clock-fresh}
 use borrow.Author.Needs.{needs}
 use Rattle.port.proofs.Port.clock_fresh.Statement.{statement}
 use Rattle.port.proofs.Port.clock_fresh.Tie as tie

@@ -1,5 +1,5 @@
 use Rattle.frame.proofs.Choose.{choose}
-use Rattle.port.specs.Skip.{counted-by}
+use Rattle.port.specs.Private.Skip.{counted-by}
 use borrow.Author.Needs.{needs}
 use Rattle.port.proofs.Port.counted_by.Statement.{statement}
 use Rattle.port.proofs.Port.counted_by.Tie as tie

@@ -1,5 +1,5 @@
 use Rattle.frame.proofs.Choose.{cond-t, cond-f, flag-t, flag-f}
-use Rattle.port.specs.Skip.{deadline}
+use Rattle.port.specs.Private.Skip.{deadline}
 use Rattle.port.proofs.Skip.{within-of}
 use borrow.Author.Needs.{needs}
 use Rattle.port.proofs.Port.deadline.Statement.{statement}

@@ -2,7 +2,7 @@
 use mathlib.Core.Path.{_≡_, refl, _∙_}
 use native.Mathlib.Omega.{arith}
 use borrow.Author.Needs.{needs}
-use Rattle.port.specs.Skip.{edges}
+use Rattle.port.specs.Private.Skip.{edges}
 use Rattle.port.proofs.Skip.{Goes, goes-in, deadline-bounds, counted-goes, goes-on, edges-on, edges-none}
 use Rattle.port.proofs.Port.edges.Statement.{statement}
 use Rattle.port.proofs.Port.edges.Tie as tie

@@ -1,6 +1,6 @@
 use borrow.Author.Needs.{needs}
 use Rattle.shift.proofs.SignedLaws.{bits-is}
-use Rattle.shift.specs.Ready.{falling}
+use Rattle.shift.specs.Private.Ready.{falling}
 use Rattle.shift.proofs.Rx.falling.Statement.{statement}
 use Rattle.shift.proofs.Rx.falling.Tie as tie
 

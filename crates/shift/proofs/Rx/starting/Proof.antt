@@ -1,6 +1,6 @@
 use borrow.Author.Needs.{needs}
 use Rattle.shift.proofs.SignedLaws.{bits-is}
-use Rattle.shift.specs.Ready.{starting}
+use Rattle.shift.specs.Private.Ready.{starting}
 use Rattle.shift.proofs.Rx.starting.Statement.{statement}
 use Rattle.shift.proofs.Rx.starting.Tie as tie
 

@@ -4,7 +4,7 @@ use Prim.Native.Nat.{ℕ}
 use mathlib.Core.List.{List}
 use Rattle.port.specs.declared.Port.{Port}
 use Rattle.machine.specs.Machine.{Run, play-items}
-use Rattle.machine.specs.Step.{Turn, onward, stopped, step}
+use Rattle.machine.specs.Private.Step.{Turn, onward, stopped, step}
 use Rattle.script.specs.Items.{read-at}
 use Rattle.player.specs.declared.Stepped.{Stepped}
 use Rattle.player.specs.declared.Stepped.the-variants.{Onward, Stopped}

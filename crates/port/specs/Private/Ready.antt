@@ -3,7 +3,7 @@
 -- Assumes nothing.
 use mathlib.Core.Path.{_≡_}
 use Prim.Native.Nat.{ℕ, _≤_}
-use Rattle.shift.specs.Ready.{PlacedIn, Sendable}
+use Rattle.shift.specs.Private.Ready.{PlacedIn, Sendable}
 use Rattle.port.specs.declared.Port.{Port}
 use Rattle.port.specs.Valid.{limit}
 
