@@ -15,7 +15,7 @@ use Rattle.command.specs.declared.Command.{Command}
 use Rattle.command.specs.Command.{command-of}
 use Rattle.command.specs.declared.Command.the-variants.{Read, Write, Wait, Line, Pins, Power, Inside}
 use Rattle.port.specs.Calls.{done, direct, run}
-use Rattle.port.specs.Pins.{pins, interrupt}
+use Rattle.pins.specs.Pins.{pins, interrupt}
 use Rattle.port.specs.Power.{fresh}
 use Rattle.port.specs.Valid.{valid}
 use Rattle.player.specs.Play.{play}

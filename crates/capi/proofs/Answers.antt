@@ -8,7 +8,7 @@ use lib.Dec.{eqb, leb}
 use borrow.Author.Tests.{eq-eqb, ne-eqb}
 use Rattle.frame.specs.Frame.{one-if}
 use Rattle.port.specs.declared.Port.{Port}
-use Rattle.port.specs.declared.Pins.{Pins}
+use Rattle.pins.specs.declared.Pins.{Pins}
 use Rattle.port.specs.declared.Called.{Called}
 use Rattle.port.specs.declared.Outcome.{Outcome}
 use Rattle.port.specs.declared.Outcome.the-variants.{Done, Refused}
@@ -17,7 +17,7 @@ use Rattle.port.specs.Valid.{valid}
 use Rattle.command.specs.declared.Command.{Command}
 use Rattle.command.specs.Command.{command-of}
 use Rattle.port.specs.Calls.{Answer, refuse, called, direct, answer, answer-of, number}
-use Rattle.port.specs.Pins.{pins, interrupt, level-number}
+use Rattle.pins.specs.Pins.{pins, interrupt, level-number}
 use Rattle.player.specs.declared.Played.{Played}
 use Rattle.player.specs.Play.{play, end-number, end-offset, ran}
 use Rattle.capi.specs.State.{a-port, nothing, decode, encode, port-max, port-in, fits}

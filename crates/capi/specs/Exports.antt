@@ -7,14 +7,14 @@ use mathlib.Core.List.{List, [], _∷_}
 use lib.Dec.{eqb, leb}
 use lib.ListN.{length}
 use Rattle.frame.specs.Frame.{one-if}
-use Rattle.port.specs.declared.Drive.{Drive}
-use Rattle.port.specs.declared.Drive.the-variants.{Floating, Low, High}
-use Rattle.port.specs.declared.Clock.{Clock}
-use Rattle.port.specs.declared.Clock.the-variants.{Free, Driven}
-use Rattle.port.specs.declared.Pins.{Pins}
+use Rattle.pins.specs.declared.Drive.{Drive}
+use Rattle.pins.specs.declared.Drive.the-variants.{Floating, Low, High}
+use Rattle.pins.specs.declared.Clock.{Clock}
+use Rattle.pins.specs.declared.Clock.the-variants.{Free, Driven}
+use Rattle.pins.specs.declared.Pins.{Pins}
 use Rattle.command.specs.Command.{command-of}
 use Rattle.port.specs.Calls.{Answer, done, refused, direct}
-use Rattle.port.specs.Pins.{pins, interrupt, level-number}
+use Rattle.pins.specs.Pins.{pins, interrupt, level-number}
 use Rattle.port.specs.Power.{fresh}
 use Rattle.port.specs.Valid.{valid}
 use Rattle.port.specs.declared.Port.{Port}

@@ -1,12 +1,33 @@
 // What is seen of the port from outside: the pins that it drives or uses, and its interrupt request (`pins` and `interrupt` of sci.rs). Nothing here changes a port.
 ghost use mathlib.Core.Path.{_≡_};
-ghost use Rattle.port.specs.Pins.{transmit-level, clock-level, clock-drive, pins, interrupt, level-number};
+ghost use Rattle.pins.specs.Pins.{transmit-level, clock-level, clock-drive, pins, interrupt, level-number};
 use frame::Format;
-use port::Clock;
-use port::Drive;
-use port::Pins;
 use port::Port;
-use port::Transmit;
+
+// signals.rs: how a pin is driven.
+pub enum Drive {
+    Floating,
+    Low,
+    High,
+}
+
+// The clock pin: not the port's, or as the port drives it.
+pub enum Clock {
+    Free,
+    Driven(Drive),
+}
+
+// The transmit pin: not driven, or at a level.
+pub enum Transmit {
+    Released,
+    Level(bool),
+}
+
+pub struct Pins {
+    pub clock: Clock,
+    pub transmit: Transmit,
+    pub receive: bool,
+}
 
 fn transmit_level(port: Port) -> Transmit
     ensures { λ r. ⌜ r ≡ transmit-level port ⌝ }

@@ -15,13 +15,13 @@ use Rattle.frame.specs.Frame.{one-if}
 use Rattle.command.specs.declared.Command.{Command}
 use Rattle.command.specs.Command.{kind}
 use Rattle.port.specs.declared.Port.{Port}
-use Rattle.port.specs.declared.Pins.{Pins}
+use Rattle.pins.specs.declared.Pins.{Pins}
 use Rattle.port.specs.declared.Refusal.{Refusal}
 use Rattle.port.specs.declared.Called.{Called}
 use Rattle.port.specs.declared.Outcome.the-variants.{Done, Refused as Refusing}
 use Rattle.port.specs.Calls.{Answer, done, refused, called, direct, number, answer}
 use Rattle.port.specs.Valid.{valid}
-use Rattle.port.specs.Pins.{pins, level-number, interrupt}
+use Rattle.pins.specs.Pins.{pins, level-number, interrupt}
 use Rattle.port_laws.specs.Laws.{Accepted-passes, One-of, Refused-stands}
 use Rattle.port_laws.proofs.Laws.{accepted-passes, refused-not-0}
 use Rattle.script.specs.declared.Fault.{Fault}

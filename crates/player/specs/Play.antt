@@ -9,7 +9,7 @@ use Rattle.command.specs.declared.Command.{Command}
 use Rattle.command.specs.Command.{kind}
 use Rattle.port.specs.declared.Port.{Port}
 use Rattle.port.specs.Calls.{Answer, done, refused, direct, number}
-use Rattle.port.specs.Pins.{transmit-level, level-number, interrupt}
+use Rattle.pins.specs.Pins.{transmit-level, level-number, interrupt}
 use Rattle.port.specs.Valid.{valid}
 use Rattle.script.specs.Number.{fault-number}
 use Rattle.script.specs.Items.{script-items}

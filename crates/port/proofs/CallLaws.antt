@@ -15,7 +15,7 @@ use Rattle.port.specs.Baud.{external, running, internal, edge-counts}
 use Rattle.frame.specs.Frame.{has}
 use Rattle.port.specs.Registers.{handles, peek, read}
 use Rattle.port.specs.Power.{set-power}
-use Rattle.port.specs.Pins.{receive-input}
+use Rattle.port.specs.Input.{receive-input}
 use Rattle.port.specs.Valid.{limit, valid}
 use Rattle.port.specs.Half.{halves, uncounted}
 use Rattle.command.specs.declared.Command.{Command}

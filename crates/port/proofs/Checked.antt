@@ -23,7 +23,7 @@ use Rattle.shift.specs.declared.Tx.the-variants.{Off, Blocked, Mark, Start, Dat
 use Rattle.port.specs.Fields.{with-input, with-input-clock}
 use Rattle.port.specs.Baud.{edge-counts}
 use Rattle.port.specs.Receiver.{arms, arm-receive-on, arm-receive}
-use Rattle.port.specs.Pins.{receive-input}
+use Rattle.port.specs.Input.{receive-input}
 use Rattle.shift.specs.Valid.{due-at, due-either, due-by, character-valid, loaded-valid, cell-valid, tx-valid, position-valid, word-in-place, rx-valid}
 use Rattle.port.specs.Valid.{limit, registers-valid, valid}
 use Rattle.shift.specs.Private.Ready.{Bounded, Plain, Placed, PlacedIn, LoadedBounded, Below, Sendable}

@@ -41,7 +41,7 @@ use Rattle.port.specs.Clocked.{with-clock, refresh-sync-clock, take-bit,
 use Rattle.port.specs.Half.{process-basic, clocked-edge}
 use Rattle.port.specs.Registers.{scr-tx, scr-rx, write-scr, write-tdr, status-with, status-write, stored, connect, load-tail-on, load-tail}
 use Rattle.port.specs.Power.{fresh, reset-registers, reset, with-power}
-use Rattle.port.specs.Pins.{receive-input}
+use Rattle.port.specs.Input.{receive-input}
 use Rattle.shift.specs.Valid.{position-valid}
 use Rattle.port.specs.Valid.{limit}
 use Rattle.shift.specs.Private.Ready.{Bounded, Plain, Placed, PlacedIn, LoadedBounded, Sendable}

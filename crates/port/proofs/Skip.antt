@@ -24,7 +24,7 @@ use Rattle.port.specs.Baud.{external, running, counted, edge-counted, ed
 use Rattle.port.specs.Clocked.{refresh-sync-clock, sync-edge}
 use Rattle.port.specs.Half.{process-basic, clocked-edge, advance, half-step, halves}
 use Rattle.port.specs.Private.Skip.{arms-on, clock-fresh, deadline, counted-by, idle-for, toggled, edge-of, edge-work, ClockGives, edges}
-use Rattle.port.specs.Pins.{receive-input, external-edge}
+use Rattle.port.specs.Input.{receive-input, external-edge}
 use Rattle.port.specs.Valid.{limit}
 use Rattle.port.specs.Private.Ready.{Ready}
 use Rattle.port.proofs.Keep.{own, keep-process-basic, keep-sync-edge, keep-clocked-edge, keep-refresh-sync-clock, keep-counted, sync-edge-ready, clocked-edge-ready, with-clock-ready}

@@ -18,7 +18,7 @@ use Rattle.port.specs.Baud.{internal, edge-counts}
 use Rattle.port.specs.Half.{halves, uncounted, inside}
 use Rattle.port.specs.Registers.{handles, peek, read, write}
 use Rattle.port.specs.Power.{set-power}
-use Rattle.port.specs.Pins.{receive-input, pins-change, input-pins}
+use Rattle.port.specs.Input.{receive-input, pins-change, input-pins}
 use Rattle.port.specs.Valid.{limit, valid}
 
 -- accepted, with the value read (else 0) and the port after the call; or refused, with document 01's number, the offset, and the port as it was

@@ -1,5 +1,5 @@
--- Document 01's printed run, and a word received, computed: direct calls from a fresh port, and what follows. Its other figures are in
--- crates/port_laws/specs/Facts.antt; these two stand beside the definition, so that one in which nothing happens, or no word arrives, is refused here.
+-- A word received, computed: direct calls from a fresh port, and what follows. Document 01's figures are in crates/port_laws/specs/Facts.antt, its printed
+-- run in crates/report/specs/Cases.antt; this one stands beside the definition, so that one in which nothing happens, or no word arrives, is refused here.
 -- Assumes nothing.
 use mathlib.Core.Path.{_≡_, refl}
 use Prim.Native.Nat.{ℕ, zero, suc, _/_, _%_}
@@ -15,13 +15,12 @@ use Rattle.port.specs.Clocked.{refresh-sync-clock, take-bit, receive-bit
 use Rattle.port.specs.Half.{process-basic, sync, clocked-edge, advance, half-step, halves}
 use Rattle.port.specs.Registers.{peek, read, write-scr, write-tdr, status-with, status-write, stored, connect, load-tail, after-store, write}
 use Rattle.port.specs.Power.{fresh, reset-registers, reset, set-power}
-use Rattle.port.specs.Pins.{receive-input, external-edge, input-pins, transmit-level, interrupt, level-number}
+use Rattle.port.specs.Input.{receive-input, external-edge, input-pins}
 use Rattle.shift.specs.Valid.{character-valid, word-in-place}
 use Rattle.port.specs.Valid.{registers-valid, valid}
 use Rattle.command.specs.declared.Command.{Command}
 use Rattle.command.specs.declared.Command.the-variants.{Read, Write, Wait, Line, Pins, Power, Inside}
-use Rattle.command.specs.Command.{kind}
-use Rattle.port.specs.Calls.{Answer, done, refused, after, called, direct, run}
+use Rattle.port.specs.Calls.{Answer, called, direct, run}
 
 -- ---- how they are computed
 -- a direct call with every definition under it open
@@ -32,39 +31,6 @@ computed c p = direct c p
 unfoldable pub after-calls : List Command → Port
 unfolding computed run fresh
 after-calls cs = run fresh cs
-
--- ---- the printed run
-abbrev pub answer-value : Answer → ℕ
-answer-value (done v q) = v
-answer-value (refused n offset q) = 0
-
--- kind, answer, SSR, level, interrupt
-unfoldable pub line-of : Command → Answer → List ℕ
-unfolding transmit-level interrupt
-line-of c r =
-    kind c ∷ answer-value r ∷ after r .ssr ∷ level-number (transmit-level (after r)) ∷ one-if (interrupt (after r)) ∷ []
-
-unfoldable pub printed : Port → List Command → List (List ℕ)
-unfolding computed line-of
-printed p [] = []
-printed p (c ∷ cs) = let r : Answer = computed c p in line-of c r ∷ printed (after r) cs
-
--- 06 03 02 91 FF 03 10 02 9A FF 03 20 02 9B FF 03 55 03 E0 02 01 9C FF 03
-abbrev pub script : List Command
-script =
-    Power 3 ∷ Write 0xff91 0x10 ∷ Write 0xff9a 0x20 ∷ Write 0xff9b 0x55 ∷ Wait 352 ∷ Read 0xff9c ∷ []
-
--- the records, and the run's length
-pub printed-run : (printed fresh script
-    ≡ (6 ∷ 0x00 ∷ 0x84 ∷ 2 ∷ 0 ∷ [])
-    ∷ (2 ∷ 0x00 ∷ 0x84 ∷ 1 ∷ 0 ∷ [])
-    ∷ (2 ∷ 0x00 ∷ 0x84 ∷ 1 ∷ 0 ∷ [])
-    ∷ (2 ∷ 0x00 ∷ 0x00 ∷ 1 ∷ 0 ∷ [])
-    ∷ (3 ∷ 0x00 ∷ 0x80 ∷ 0 ∷ 0 ∷ [])
-    ∷ (1 ∷ 0x80 ∷ 0x80 ∷ 0 ∷ 0 ∷ [])
-    ∷ []) × (after-calls script .half ≡ 352)
-unfolding printed after-calls fresh
-printed-run = (refl, refl)
 
 -- ---- words received
 -- the line at mark, or not, with SPCR bit 0 as given

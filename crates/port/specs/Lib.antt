@@ -6,7 +6,7 @@ pub mod Clocked
 pub mod Half
 pub mod Registers
 pub mod Power
-pub mod Pins
+pub mod Input
 pub mod Valid
 pub mod Calls
 pub mod Facts

@@ -17,7 +17,7 @@ ghost use Rattle.port.specs.Half.{process-basic, halves, uncounted};
 ghost use Rattle.port.specs.Private.Skip.{arms-on, starts-on, nothing-due, toggled, edge-of, edge-work, clock-fresh, deadline, counted-by, ClockGives, edges, idle-for};
 ghost use Rattle.port.specs.Registers.{handles, peek, read, sender-off, scr-tx, write-scr, write-tdr, status-write, stored, connect, load-tail, after-store, write};
 ghost use Rattle.port.specs.Power.{fresh, reset-registers, reset, set-power};
-ghost use Rattle.port.specs.Pins.{receive-input, external-edge};
+ghost use Rattle.port.specs.Input.{receive-input, external-edge};
 ghost use Rattle.port.specs.Valid.{limit, registers-valid, valid};
 ghost use Rattle.port.specs.Calls.{done, refuse, called, direct, number, answer};
 ghost use Rattle.shift.specs.Private.Ready.{Bounded, Placed, Shiftable, PlacedIn, LoadedBounded, Sendable, in-data, at-parity};
@@ -67,31 +67,6 @@ pub struct Port {
     pub holding: Holding,
     pub transmitted: u64,
     pub received: u64,
-}
-
-// signals.rs: how a pin is driven.
-pub enum Drive {
-    Floating,
-    Low,
-    High,
-}
-
-// The clock pin: not the port's, or as the port drives it.
-pub enum Clock {
-    Free,
-    Driven(Drive),
-}
-
-// The transmit pin: not driven, or at a level.
-pub enum Transmit {
-    Released,
-    Level(bool),
-}
-
-pub struct Pins {
-    pub clock: Clock,
-    pub transmit: Transmit,
-    pub receive: bool,
 }
 
 // Why a call is refused. `number` has document 01's numbers.

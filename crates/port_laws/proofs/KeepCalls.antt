@@ -23,7 +23,7 @@ use Rattle.port.specs.Clocked.{refresh-sync-clock, sync-edge}
 use Rattle.port.specs.Half.{process-basic, inside, uncounted}
 use Rattle.port.specs.Registers.{handles, read, sender-off, sender-on, scr-tx, write-scr, write-tdr, cleared, status-with, status-write, stored, connect, load-tail, after-store, write}
 use Rattle.port.specs.Power.{fresh, reset-registers, reset, with-power, set-power}
-use Rattle.port.specs.Pins.{receive-input, external-edge, pins-change, input-pins}
+use Rattle.port.specs.Input.{receive-input, external-edge, pins-change, input-pins}
 use Rattle.branches.proofs.Branches.{by-cond, both-arms}
 use Rattle.port.proofs.Checked.{edge-counts-kept}
 use Rattle.port_laws.proofs.Masks.{and-and, and-or, or-clear, and-clear}

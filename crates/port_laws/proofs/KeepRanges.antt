@@ -34,7 +34,7 @@ use Rattle.port.specs.Clocked.{refresh-sync-clock, take-bit, receive-bit, recei
 use Rattle.port.specs.Half.{process-basic, sync, clocked-edge, advance, half-step, halves, uncounted}
 use Rattle.port.specs.Registers.{read, scr-tx, write-scr, write-tdr, cleared, status-with, status-write, stored, connect, load-tail, after-store, write}
 use Rattle.port.specs.Power.{fresh, reset-registers, reset, with-power, set-power}
-use Rattle.port.specs.Pins.{receive-input, external-edge, pins-change, input-pins}
+use Rattle.port.specs.Input.{receive-input, external-edge, pins-change, input-pins}
 use Rattle.port.specs.Private.Ready.{Ready}
 use Rattle.port.specs.Valid.{limit}
 use Rattle.port_laws.specs.Laws.{wrap}

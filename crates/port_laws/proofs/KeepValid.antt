@@ -25,7 +25,7 @@ use Rattle.port.specs.Baud.{internal, edge-counts}
 use Rattle.port.specs.Half.{halves, uncounted, inside}
 use Rattle.port.specs.Registers.{handles, read, write}
 use Rattle.port.specs.Power.{fresh}
-use Rattle.port.specs.Pins.{receive-input, pins-change, input-pins}
+use Rattle.port.specs.Input.{receive-input, pins-change, input-pins}
 use Rattle.shift.specs.Valid.{due-at, due-either, due-by, character-valid, loaded-valid, cell-valid, tx-valid, position-valid, word-in-place, rx-valid}
 use Rattle.port.specs.Valid.{limit, registers-valid, valid}
 use Rattle.command.specs.declared.Command.{Command}

@@ -16,7 +16,7 @@ use Rattle.port.specs.Baud.{external, internal, edge-counts}
 use Rattle.port.specs.Receiver.{error-free, complete-receive}
 use Rattle.port.specs.Sender.{one-sent, finish-tail}
 use Rattle.port.specs.Registers.{handles}
-use Rattle.port.specs.Pins.{pins-change}
+use Rattle.port.specs.Input.{pins-change}
 use Rattle.port.specs.Valid.{limit, valid}
 use Rattle.command.specs.declared.Command.{Command}
 use Rattle.command.specs.declared.Command.the-variants.{Read, Write, Wait, Line, Pins, Power, Inside}

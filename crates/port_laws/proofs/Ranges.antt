@@ -14,7 +14,7 @@ use Rattle.port.specs.declared.Port.{Port}
 use Rattle.port.specs.Baud.{internal, edge-counts}
 use Rattle.port.specs.Registers.{handles, peek}
 use Rattle.port.specs.Power.{fresh}
-use Rattle.port.specs.Pins.{pins-change}
+use Rattle.port.specs.Input.{pins-change}
 use Rattle.port.specs.Valid.{limit, valid}
 use Rattle.command.specs.declared.Command.{Command}
 use Rattle.command.specs.declared.Command.the-variants.{Read, Write, Wait, Line, Pins, Power, Inside}

@@ -17,7 +17,7 @@ use Rattle.port.specs.Sender.{try-start}
 use Rattle.port.specs.Half.{half-step, halves, uncounted, inside}
 use Rattle.port.specs.Registers.{handles, read, scr-tx, write-scr, write-tdr, cleared, status-with, status-write, stored, connect, load-tail, after-store, write}
 use Rattle.port.specs.Power.{fresh, reset-registers, reset, with-power, set-power}
-use Rattle.port.specs.Pins.{receive-input, external-edge, pins-change, input-pins}
+use Rattle.port.specs.Input.{receive-input, external-edge, pins-change, input-pins}
 use Rattle.port.specs.Valid.{limit, valid}
 use Rattle.command.specs.declared.Command.{Command}
 use Rattle.command.specs.declared.Command.the-variants.{Read, Write, Wait, Line, Pins, Power, Inside}

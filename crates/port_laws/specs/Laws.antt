@@ -25,7 +25,7 @@ use Rattle.port.specs.Receiver.{input-level, error-free, complete-receive}
 use Rattle.port.specs.Sender.{finish-tail}
 use Rattle.port.specs.Half.{half-step}
 use Rattle.port.specs.Power.{fresh}
-use Rattle.port.specs.Pins.{receive-input, external-edge, pins-change}
+use Rattle.port.specs.Input.{receive-input, external-edge, pins-change}
 use Rattle.port.specs.Valid.{valid}
 use Rattle.command.specs.declared.Command.{Command}
 use Rattle.command.specs.declared.Command.the-variants.{Read, Write, Wait, Line, Pins, Power, Inside}

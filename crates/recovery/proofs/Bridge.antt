@@ -15,7 +15,7 @@ use Rattle.port.specs.declared.Port.{Port}
 use Rattle.frame.specs.Frame.{differ, has}
 use Rattle.port.specs.Baud.{edge-counts, internal}
 use Rattle.port.specs.Half.{half-step, halves, uncounted}
-use Rattle.port.specs.Pins.{pins-change}
+use Rattle.port.specs.Input.{pins-change}
 use Rattle.port.specs.Receiver.{input-level}
 use Rattle.port.specs.Registers.{handles}
 use Rattle.port.specs.Valid.{limit, valid}

@@ -6,7 +6,7 @@ use Rattle.port.specs.Calls.{Answer, called, direct}
 use Rattle.command.specs.declared.Command.{Command}
 use Rattle.port.specs.Clocked.{bit-out, receive-bit, refresh-sync-clock, shift-out, sync-edge, tail-ends, take-bit}
 use Rattle.port.specs.Half.{advance, clocked-edge, half-step, halves, process-basic, sync}
-use Rattle.port.specs.Pins.{external-edge, input-pins, receive-input}
+use Rattle.port.specs.Input.{external-edge, input-pins, receive-input}
 use Rattle.port.specs.Power.{fresh, reset, reset-registers, set-power}
 use Rattle.shift.specs.Receiver.{sample-at}
 use Rattle.port.specs.Receiver.{advance-rx, arm-receive, complete-receive}

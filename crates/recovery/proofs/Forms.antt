@@ -24,7 +24,7 @@ use Rattle.command.specs.declared.Command.the-variants.{Wait, Inside, Read, Lin
 use Rattle.port.specs.Clocked.{receive-bit, receive-bit-on, refresh-sync-clock, sync-edge, take-bit, with-clock}
 use Rattle.port.specs.Fields.{with-input, with-input-clock, with-rx, with-scr, with-semr, with-smr}
 use Rattle.port.specs.Half.{advance, clocked-edge, half-step, halves, process-basic, sync, uncounted}
-use Rattle.port.specs.Pins.{external-edge, input-pins, receive-input}
+use Rattle.port.specs.Input.{external-edge, input-pins, receive-input}
 use Rattle.port.specs.Power.{fresh, reset, reset-registers, set-power, with-power}
 use Rattle.port.specs.Receiver.{arm-receive, complete-receive, error-free, input-level}
 use Rattle.port.specs.Registers.{cleared, connect, handles, load-tail, read, scr-tx, sender-off, sender-on, after-store, status-with, status-write, stored, write, write-scr, write-tdr}

@@ -25,7 +25,7 @@ use Rattle.shift.specs.Receiver.{bit-taken, clocked-word, last-bit, rx-clocked}
 use Rattle.port.specs.Clocked.{receive-bit, receive-bit-on, refresh-sync-clock, sync-edge, take-bit, with-clock}
 use Rattle.port.specs.Fields.{with-input, with-input-clock, with-rx}
 use Rattle.port.specs.Half.{advance, clocked-edge, half-step, halves, inside, process-basic, sync, uncounted}
-use Rattle.port.specs.Pins.{external-edge, input-pins, receive-input}
+use Rattle.port.specs.Input.{external-edge, input-pins, receive-input}
 use Rattle.port.specs.Power.{set-power}
 use Rattle.shift.specs.Due.{due-now}
 use Rattle.port.specs.Receiver.{arm-receive, complete-receive, error-free, input-level}

@@ -17,7 +17,7 @@ use Rattle.command.specs.declared.Command.the-variants.{Wait, Inside, Read, Lin
 use Rattle.port.specs.Clocked.{refresh-sync-clock, sync-edge}
 use Rattle.port.specs.Fields.{with-input, with-input-clock, with-seen}
 use Rattle.port.specs.Half.{half-step, halves, inside, process-basic, uncounted}
-use Rattle.port.specs.Pins.{external-edge, input-pins, receive-input}
+use Rattle.port.specs.Input.{external-edge, input-pins, receive-input}
 use Rattle.port.specs.Power.{set-power}
 use Rattle.port.specs.Receiver.{arm-receive, input-level}
 use Rattle.port.specs.Registers.{handles, peek, read, write}

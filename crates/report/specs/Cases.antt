@@ -14,7 +14,8 @@ use Rattle.port.specs.Clocked.{refresh-sync-clock, take-bit, receive-bit, tail-
 use Rattle.port.specs.Half.{process-basic, sync, clocked-edge, advance, half-step, halves}
 use Rattle.port.specs.Registers.{peek, read, write-scr, write-tdr, status-with, status-write, stored, connect, load-tail, after-store, write}
 use Rattle.port.specs.Power.{fresh, reset-registers, reset, set-power}
-use Rattle.port.specs.Pins.{receive-input, external-edge, input-pins, transmit-level, interrupt}
+use Rattle.port.specs.Input.{receive-input, external-edge, input-pins}
+use Rattle.pins.specs.Pins.{transmit-level, interrupt}
 use Rattle.port.specs.Valid.{registers-valid, valid}
 use Rattle.port.specs.Calls.{called, direct}
 use Rattle.port.specs.declared.Port.{Port}

@@ -12,7 +12,7 @@ use Rattle.command.specs.declared.Command.{Command}
 use Rattle.port.specs.Calls.{direct}
 use Rattle.command.specs.declared.Command.the-variants.{Wait, Power, Read, Write, Line, Inside}
 use Rattle.port.specs.Power.{fresh}
-use Rattle.port.specs.Pins.{interrupt, transmit-level}
+use Rattle.pins.specs.Pins.{interrupt, transmit-level}
 use Rattle.script.specs.RoundTrip.{script}
 use Rattle.machine.specs.Machine.{play-items}
 use Rattle.player.specs.Play.{play}

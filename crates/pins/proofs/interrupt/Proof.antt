@@ -1,5 +1,5 @@
 use Rattle.frame.proofs.Choose.{choose}
-use Rattle.port.specs.Pins.{interrupt}
+use Rattle.pins.specs.Pins.{interrupt}
 use Rattle.pins.proofs.interrupt.Statement.{statement}
 use Rattle.pins.proofs.interrupt.Tie as tie
 

@@ -1,6 +1,6 @@
 use Rattle.frame.proofs.Choose.{choose}
-use Rattle.port.proofs.Same.{same-pins}
-use Rattle.port.specs.Pins.{pins}
+use Rattle.pins.proofs.Laws.{same-pins}
+use Rattle.pins.specs.Pins.{pins}
 use borrow.Author.Needs.{needs}
 use Rattle.pins.proofs.pins.Statement.{statement}
 use Rattle.pins.proofs.pins.Tie as tie

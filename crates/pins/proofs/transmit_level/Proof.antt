@@ -1,5 +1,5 @@
 use Rattle.frame.proofs.Choose.{choose}
-use Rattle.port.specs.Pins.{transmit-level}
+use Rattle.pins.specs.Pins.{transmit-level}
 use Rattle.pins.proofs.transmit_level.Statement.{statement}
 use Rattle.pins.proofs.transmit_level.Tie as tie
 

@@ -2,7 +2,7 @@ use Rattle.frame.proofs.Choose.{cond-t, cond-f, flag-t, flag-f}
 use Rattle.port.proofs.CallLaws.{edge-room, pins-past, pins-same, pins-set}
 use Rattle.port.proofs.Checked.{valid-ready}
 use Rattle.port.specs.Calls.{called}
-use Rattle.port.specs.Pins.{input-pins}
+use Rattle.port.specs.Input.{input-pins}
 use borrow.Author.Needs.{needs}
 use Rattle.port.proofs.Port.input_pins_valid.Statement.{statement}
 use Rattle.port.proofs.Port.input_pins_valid.Tie as tie

@@ -1,6 +1,6 @@
 use Rattle.frame.proofs.Choose.{choose}
 use Rattle.port.proofs.Steps.{arm-t, arm-f}
-use Rattle.port.specs.Pins.{receive-input}
+use Rattle.port.specs.Input.{receive-input}
 use Rattle.port.specs.Receiver.{arm-receive}
 use borrow.Author.Needs.{needs}
 use Rattle.port.proofs.Port.receive_input.Statement.{statement}
