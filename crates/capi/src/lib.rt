@@ -719,7 +719,7 @@ pub extern "C" fn sci3_pins(state: &[u64]) -> u64
     ensures { λ r. ⌜ r ≡ pins-answer (now (state .entry)) ⌝ }
 {
     if is_state(state) {
-        return pins_number(pins::pins(port_in(state)));
+        return pins_number(pins::of(port_in(state)));
     }
     264
 }

@@ -66,7 +66,7 @@ fn clock_drive(port: Port) -> Clock
 }
 
 // The pins that the port drives or uses. The clock drive just after clocked output ends is the part that document 01 leaves free.
-pub fn pins(port: Port) -> Pins
+pub fn of(port: Port) -> Pins
     ensures { λ r. ⌜ r ≡ pins port ⌝ }
 {
     let clock = clock_drive(port);

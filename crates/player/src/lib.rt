@@ -47,7 +47,7 @@ pub fn record_of(command: Command, value: u8, port: Port) -> [u8; 5]
     ensures { λ r. ⌜ r ≡ record-of command value port ⌝ }
 {
     let kind = command.kind();
-    let pins = pins::pins(port);
+    let pins = pins::of(port);
     let transmit = pins.transmit;
     let level = pins::level_number(transmit);
     let interrupt = one_if(pins::interrupt(port));

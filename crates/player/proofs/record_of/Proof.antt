@@ -13,6 +13,6 @@ record-of-spec =
     (λ c κs. search needs)
     (λ c κs. search needs)
     (λ c. let a = c .before .before .before .before .before .args in
-    record-made (a .command) (a .value) (a .port) (c .before .before .before .pins .result) (c .before .before .before .before .kind .result)
+    record-made (a .command) (a .value) (a .port) (c .before .before .before .of .result) (c .before .before .before .before .kind .result)
     (c .before .before .level-number .result) (c .one-if .result) (c .before .interrupt .result)
-    (c .before .before .before .before .kind .ensures) (c .before .before .before .pins .ensures) (c .before .before .level-number .ensures) (c .before .interrupt .ensures) (c .one-if .ensures)))
+    (c .before .before .before .before .kind .ensures) (c .before .before .before .of .ensures) (c .before .before .level-number .ensures) (c .before .interrupt .ensures) (c .one-if .ensures)))

@@ -2,12 +2,12 @@ use Rattle.frame.proofs.Choose.{choose}
 use Rattle.pins.proofs.Laws.{same-pins}
 use Rattle.pins.specs.Pins.{pins}
 use borrow.Author.Needs.{needs}
-use Rattle.pins.proofs.pins.Statement.{statement}
-use Rattle.pins.proofs.pins.Tie as tie
+use Rattle.pins.proofs.of.Statement.{statement}
+use Rattle.pins.proofs.of.Tie as tie
 
-pub pins-spec : {M : Type 1} → statement M
+pub of-spec : {M : Type 1} → statement M
 unfolding pins
-pins-spec =
+of-spec =
     tie.close
     (tie.spec
     (λ c κs. search needs)
