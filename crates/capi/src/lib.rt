@@ -1,4 +1,5 @@
 // SCI3 for programs in other languages: a port's state in a lent array of numbers, the direct calls on it, and the player of scripts.
+#![tactic(auto)]
 ghost use Rattle.std.specs.Prelude.{◌≡◌, true, cond, ◌+◌, ◌≤◌, ◌++◌, eqb, length, take};
 ghost use Rattle.frame.specs.Frame.{one_if};
 ghost use Rattle.port.specs.Calls.{answer, direct};

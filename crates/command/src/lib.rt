@@ -1,10 +1,12 @@
 // The commands of a script (document 01, "A script comes in"): what each does, its kind's number, and the table of kinds with the range of each
 // operand. Port, script, player and the exported calls share it.
+#![tactic(auto)]
+
 ghost use Rattle.std.specs.Prelude.{◌≡◌};
 ghost use Rattle.command.specs.Command.{kind, operands_of, command_of};
 
 // A command: kinds 1 to 7 with their operands.
-#[derive(Drop)]
+#[derive(Clone, Copy)]
 pub enum Command {
     // Reads a register.
     Read { address: u32 },
@@ -42,7 +44,7 @@ impl Command {
 }
 
 // The operands of a kind, by their largest values.
-#[derive(Drop)]
+#[derive(Clone, Copy)]
 pub enum Operands {
     None,
     One(u32),

@@ -1,8 +1,10 @@
 // A character's format, latched when a word is loaded or its reception begins, and the word of a value in it.
+#![tactic(auto)]
+
 ghost use Rattle.std.specs.Prelude.{◌≡◌, true, cond, ◌&&◌, ◌+◌, ◌≤◌, ◌-◌, ◌^◌};
 ghost use Rattle.frame.specs.Frame.{has, one_if, format, stop, cells, word, format_valid, data_of, word_valid};
 
-#[derive(Drop)]
+#[derive(Clone, Copy)]
 pub struct Format {
     pub synchronous: bool,
     pub data: u8,

@@ -1,4 +1,5 @@
 // What is seen of the port from outside: the pins that it drives or uses, and its interrupt request (`pins` and `interrupt` of sci.rs). Nothing here changes a port.
+#![tactic(auto)]
 ghost use Rattle.std.specs.Prelude.{◌≡◌};
 ghost use Rattle.pins.specs.Pins.{transmit_level, clock_level, clock_drive, pins, interrupt, level_number};
 
@@ -6,7 +7,7 @@ use frame::Format;
 use port::Port;
 
 // signals.rs: how a pin is driven.
-#[derive(Drop)]
+#[derive(Clone, Copy)]
 pub enum Drive {
     Floating,
     Low,
@@ -14,20 +15,20 @@ pub enum Drive {
 }
 
 // The clock pin: not the port's, or as the port drives it.
-#[derive(Drop)]
+#[derive(Clone, Copy)]
 pub enum Clock {
     Free,
     Driven(Drive),
 }
 
 // The transmit pin: not driven, or at a level.
-#[derive(Drop)]
+#[derive(Clone, Copy)]
 pub enum Transmit {
     Released,
     Level(bool),
 }
 
-#[derive(Drop)]
+#[derive(Clone, Copy)]
 pub struct Pins {
     pub clock: Clock,
     pub transmit: Transmit,

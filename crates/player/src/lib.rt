@@ -1,5 +1,6 @@
 // Plays a script on a port and leaves a record of each command in a lent log (document 01, "A script comes in").
-ghost use Rattle.std.specs.Prelude.{◌≡◌, ◌-◌, ◌≤◌, true, ◌++◌, length, drop};
+#![tactic(auto)]
+ghost use Rattle.std.specs.Prelude.{◌≡◌, true, ◌++◌, ◌≤◌, length, drop};
 ghost use Rattle.frame.specs.Frame.{one_if};
 ghost use Rattle.port.specs.Calls.{called, answer};
 ghost use Rattle.port.specs.Valid.{valid};
@@ -61,7 +62,7 @@ fn write_record(log: &mut [u8], command: Command, value: u8, port: Port)
 }
 
 // Why a command is not played.
-#[derive(Drop)]
+#[derive(Clone, Copy)]
 pub enum Reason {
     // It cannot be read.
     Unread(Fault),
@@ -84,29 +85,18 @@ impl Reason {
     }
 }
 
-// The edges that a command counted, by the half count before and after it: only a reset lowers that, and counts none.
-fn counted(before: u32, after: u32) -> u32
-    ensures { result ≡ after - before }
-{
-    if before < after { after - before } else { 0 }
-}
-
 // What a command makes of the run.
-#[derive(Drop)]
+#[derive(Clone, Copy)]
 pub enum Stepped {
-    // It was played; the run is so long now, and the next command begins at this offset.
-    Onward {
-        port: Port,
-        length: u64,
-        next: usize,
-    },
+    // It was played; the next command begins at this offset.
+    Onward { port: Port, next: usize },
     Stopped(Reason),
 }
 
-// Plays the command at an offset of the script, in a run that is so long. The log is its unwritten rest.
-fn step(port: Port, length: u64, script: &[u8], at: usize, log: &mut [u8]) -> Stepped
+// Plays the command at an offset of the script. The log is its unwritten rest.
+fn step(port: Port, script: &[u8], at: usize, log: &mut [u8]) -> Stepped
     requires { valid port ≡ true }
-    ensures { stepped result log.new ≡ port_step (record { port = port; length = length }) script.now at log.old }
+    ensures { stepped result log.new ≡ port_step port script.now at log.old }
 {
     if log.len() < RECORD {
         return Stepped::Stopped(Reason::Full);
@@ -120,14 +110,8 @@ fn step(port: Port, length: u64, script: &[u8], at: usize, log: &mut [u8]) -> St
                 Outcome::Refused { refusal, offset: _ } => Stepped::Stopped(Reason::Call(refusal)),
                 Outcome::Done(value) => {
                     let after = called.port;
-                    let edges = counted(port.half, after.half);
-                    let length = std::num::wrapping_add_u64(length, edges as u64);
                     write_record(log, command, value, after);
-                    Stepped::Onward {
-                        port: after,
-                        length,
-                        next,
-                    }
+                    Stepped::Onward { port: after, next }
                 }
             }
         }
@@ -135,7 +119,7 @@ fn step(port: Port, length: u64, script: &[u8], at: usize, log: &mut [u8]) -> St
 }
 
 // How a run ends.
-#[derive(Drop)]
+#[derive(Clone, Copy)]
 pub enum End {
     Accepted,
     // The command whose first byte stands at this offset was not played; by the field test, at offset 0, none was.
@@ -164,12 +148,10 @@ impl End {
     }
 }
 
-// What playing hands back: the last port (at a refusal, as before the refused command), the edges counted over the whole script, and how many bytes
-// of the log are written.
-#[derive(Drop)]
+// What playing hands back: the last port (at a refusal, as before the refused command), and how many bytes of the log are written.
+#[derive(Clone, Copy)]
 pub struct Played {
     pub port: Port,
-    pub length: u64,
     pub end: End,
     pub used: usize,
 }
@@ -180,26 +162,19 @@ fn play_on(port: Port, script: &[u8], log: &mut [u8]) -> Played
     ensures { ran result log.new ≡ play_on port script.now log.old }
 {
     let mut p = port;
-    let mut length: u64 = 0;
     let mut at: usize = 0;
     let mut used: usize = 0;
     while at < script.len() {
-        match step(p, length, script, at, &mut log[used..]) {
+        match step(p, script, at, &mut log[used..]) {
             Stepped::Stopped(reason) => {
                 return Played {
                     port: p,
-                    length,
                     end: End::Refused { reason, offset: at },
                     used,
                 };
             }
-            Stepped::Onward {
-                port: q,
-                length: longer,
-                next,
-            } => {
+            Stepped::Onward { port: q, next } => {
                 p = q;
-                length = longer;
                 at = next;
                 used = used + RECORD;
             }
@@ -207,7 +182,6 @@ fn play_on(port: Port, script: &[u8], log: &mut [u8]) -> Played
     }
     Played {
         port: p,
-        length,
         end: End::Accepted,
         used,
     }
@@ -222,7 +196,6 @@ pub fn play(port: Port, script: &[u8], log: &mut [u8]) -> Played
     }
     Played {
         port,
-        length: 0,
         end: End::Refused {
             reason: Reason::Call(Refusal::State),
             offset: 0,

@@ -1,4 +1,6 @@
 // SCI3 of the H8/38602R as a value: registers, sender, receiver and clock of sci.rs (document 01). Its `pins` and `interrupt` are in the crate pins.
+#![tactic(auto)]
+
 ghost use Rattle.std.specs.Prelude.{◌≡◌, ◌+◌, ◌<◌, ◌≤◌, true, false, if◌then◌else◌, bit_or};
 ghost use Rattle.shift.specs.declared.Receiver.TheVariants.{Idle, Busy};
 ghost use Rattle.shift.specs.declared.Tx.TheVariants.{Off};
@@ -17,7 +19,7 @@ ghost use Rattle.port.specs.Power.{fresh, reset_registers, reset, set_power};
 ghost use Rattle.port.specs.Input.{receive_input, external_edge};
 ghost use Rattle.port.specs.Valid.{limit, registers_valid, valid};
 ghost use Rattle.port.specs.Calls.{done, refuse, called, direct, number, answer};
-ghost use Rattle.shift.specs.Private.Ready.{Bounded, Placed, Shiftable, PlacedIn, LoadedBounded, Sendable, in-data, at_parity};
+ghost use Rattle.shift.specs.Private.Ready.{Bounded, Placed, Shiftable, PlacedIn, LoadedBounded, Sendable, in_data, at_parity};
 ghost use Rattle.port.specs.Private.Ready.{Ready};
 
 use command::Command;
@@ -29,7 +31,7 @@ const LIMIT: u32 = 4_000_000_000;
 
 // Not in the order of `Sci`: a port is copied sixteen bytes at a time, and such a move waits where it crosses bytes that were just stored one by one. So
 // single bytes stand first, and those that a read or a record touches end the first sixteen.
-#[derive(Drop)]
+#[derive(Clone, Copy)]
 pub struct Port {
     pub spcr: u8,
     pub smr: u8,
@@ -62,7 +64,7 @@ pub struct Port {
 }
 
 // Why a call is refused. `number` has document 01's numbers.
-#[derive(Drop)]
+#[derive(Clone, Copy)]
 pub enum Refusal {
     // The address is none of the nine.
     Address,
@@ -76,14 +78,14 @@ pub enum Refusal {
     State,
 }
 
-#[derive(Drop)]
+#[derive(Clone, Copy)]
 pub enum Outcome {
     Done(u8),
     Refused { refusal: Refusal, offset: u32 },
 }
 
 // What a direct call hands back.
-#[derive(Drop)]
+#[derive(Clone, Copy)]
 pub struct Called {
     pub outcome: Outcome,
     pub port: Port,
@@ -111,7 +113,7 @@ fn level(character: Character, cell: u8) -> bool
 // Whether a received word waits for a data cell.
 fn in_data(rx: Rx) -> bool
     requires { Placed rx }
-    ensures { result ≡ in-data rx }
+    ensures { result ≡ in_data rx }
 {
     let data = rx.format.data as i8;
     rx.position < data

@@ -3,6 +3,7 @@
 // lines of its run as the program prints them, and a sum over the whole log, which was filled with AA, and the 53 numbers of the last state.
 // A case whose log's length is FFFF is a write instead: a number or a command is written into a buffer, and printed are the writer's answer and the buffer's
 // sum; `stdout` has what a writer in Rust makes of it. oracle/README.md has the layout of both, and the command that made both files.
+#![tactic(auto)]
 ghost use Rattle.std.specs.Prelude.{◌≤◌};
 
 use capi::{sci3_fresh, sci3_play};

@@ -1,10 +1,11 @@
 // The program: plays the script on standard input and prints it (document 01, "A script comes in"). What it prints is report's `printout`, which is proved;
 // reading and writing are here.
+#![tactic(auto)]
 ghost use Rattle.std.specs.Prelude.{length};
 ghost use Rattle.sci3.specs.Private.Input.{Within};
 
 // What reading finds: so many bytes, or that standard input cannot be read.
-#[derive(Drop)]
+#[derive(Clone, Copy)]
 pub enum Input {
     Bytes(usize),
     Failed,

@@ -1,4 +1,6 @@
 // A script's numbers and commands, read from its bytes and written into a lent buffer (document 01, "A script comes in").
+#![tactic(auto)]
+
 ghost use Rattle.std.specs.Prelude.{◌≡◌, ◌+◌, ◌*◌, ◌^◌, ◌≤◌, ◌<◌, [], ◌∷◌, ◌++◌, length, drop};
 ghost use Rattle.store.specs.Store.{Stored};
 ghost use Rattle.script.specs.Number.{fault_number, breaks, number_at};
@@ -10,7 +12,7 @@ ghost use Rattle.script.specs.Write.{encode_all, bytes, as_put, put};
 use command::{Command, Operands};
 
 // Why a command cannot be read.
-#[derive(Drop)]
+#[derive(Clone, Copy)]
 pub enum Fault {
     // The script ends inside the command.
     Short,
@@ -37,7 +39,7 @@ impl Fault {
 }
 
 // What reading a number finds.
-#[derive(Drop)]
+#[derive(Clone, Copy)]
 pub enum Number {
     // Its value, and the offset after its last byte.
     Value { value: u32, next: usize },
@@ -94,7 +96,7 @@ pub fn read_operand(s: &[u8], at: usize, max: u32) -> Number
 }
 
 // What reading a command finds.
-#[derive(Drop)]
+#[derive(Clone, Copy)]
 pub enum Decoded {
     // The command, and the offset after its last byte.
     Command { command: Command, next: usize },
@@ -172,7 +174,7 @@ pub fn read_command(s: &[u8], at: usize) -> Decoded
 }
 
 // What writing answers.
-#[derive(Drop)]
+#[derive(Clone, Copy)]
 pub enum Written {
     // The bytes are written up to this offset.
     To(usize),

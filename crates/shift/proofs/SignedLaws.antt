@@ -24,7 +24,7 @@ use Rattle.shift.specs.declared.Sampled.{Sampled}
 use Rattle.shift.specs.declared.Sampled.TheVariants.{Dropped, Onward, Whole}
 use Rattle.shift.specs.Receiver.{next_position, bit_at, started, stepped, stopped, sample_at, sample, last_bit}
 use Rattle.shift.specs.Valid.{position_valid}
-use Rattle.shift.specs.Private.Ready.{Placed, Shiftable, eqZ, falling, starting, in-data, at_parity}
+use Rattle.shift.specs.Private.Ready.{Placed, Shiftable, eqZ, falling, starting, in_data, at_parity}
 
 -- ---- a signed byte and its bits
 -- two tests that hold together are the same
@@ -48,7 +48,7 @@ pub and_of : (a a' b : Bool) → a ≡ a' → (a && b) ≡ (a' && b)
 and_of a a' b e = ap (λ (x : Bool). x && b) e
 
 pub bits_of : (z : ℤ) → mag z < 128 → to_z w8 (of_z w8 z) ≡ z
-bits_of z h = to_z-of_z (record { sfits = h })
+bits_of z h = to_z-of_z {w = w8} (record { sfits = h })
 
 pub at_data : (z : ℤ) (d : ℕ) → mag z < 128 → d ≤ 8 → eqb (of_z w8 z) d ≡ eqZ z (pos d)
 at_data z d hz hd = bits_eq z (pos d) hz (omega arith)
@@ -131,8 +131,8 @@ below_eight : (z : ℤ) (d : ℕ) → d ≤ 8 → lt_z z (pos d) ≡ true → T 
 below_eight (pos j) d hd e = subst T (sym (lt-ltb j 8 (omega (arith, ltb-true j d e)))) tt
 below_eight (negsuc n) d hd e = tt
 
-pub data_shifts : (r : Rx) → Placed r → falling r ≡ false → starting r ≡ false → in-data r ≡ true → Shiftable r
-unfolding falling starting in-data
+pub data_shifts : (r : Rx) → Placed r → falling r ≡ false → starting r ≡ false → in_data r ≡ true → Shiftable r
+unfolding falling starting in_data
 data_shifts r p a b h =
     record { from_zero = from_zero r.position r.format p.place a b; below_eight = below_eight r.position r.format.«data» p.bounded.data≤8 h }
 
@@ -215,16 +215,16 @@ module _ (now : Format) (high : Bool) (half : ℕ) (r : Rx) (out : Sampled) wher
   at_starting h e = starting_clause r.position h e
 
   module _ (p : Placed r) (a : falling r ≡ false) (b : starting r ≡ false) where
-    pub at_data_cell : in-data r ≡ true
+    pub at_data_cell : in_data r ≡ true
         → out ≡ Onward (stepped half r.position (cond high (bit_or r.value (bit_at r.position)) r.value) (differ r.parity high) r.error r) → out ≡ sample now high half r
-    unfolding falling starting in-data
+    unfolding falling starting in_data
     at_data_cell h e = data_clause r.position r.format p.place a b h e
 
-    pub at_parity_cell : in-data r ≡ false → at_parity r ≡ true
+    pub at_parity_cell : in_data r ≡ false → at_parity r ≡ true
         → out ≡ Onward (stepped half r.position r.value r.parity (cond (differ high (differ r.parity r.format.odd)) (bit_or r.error 8) r.error) r) → out ≡ sample now high half r
-    unfolding falling starting in-data at_parity
+    unfolding falling starting in_data at_parity
     at_parity_cell h k e = parity_clause r.position r.format p.place a b h k e
 
-    pub at_stop_cell : in-data r ≡ false → at_parity r ≡ false → out ≡ Whole (stopped high r) → out ≡ sample now high half r
-    unfolding falling starting in-data at_parity
+    pub at_stop_cell : in_data r ≡ false → at_parity r ≡ false → out ≡ Whole (stopped high r) → out ≡ sample now high half r
+    unfolding falling starting in_data at_parity
     at_stop_cell h k e = stop_clause r.position r.format p.place a b h k e

@@ -1,4 +1,6 @@
 // The words that the port sends and receives: what the sender, the receiver and the holding place of sci.rs hold (document 01).
+#![tactic(auto)]
+
 ghost use Rattle.std.specs.Prelude.{◌≡◌, ◌&&◌, ◌≤◌};
 ghost use Rattle.shift.specs.Due.{absent, due_or, within};
 ghost use Rattle.shift.specs.Sender.{holds, tx_next, tx_clocked};
@@ -9,34 +11,34 @@ ghost use Rattle.shift.specs.Private.Ready.{falling, starting};
 use frame::Format;
 
 // A half at which something falls due, if any.
-#[derive(Drop)]
+#[derive(Clone, Copy)]
 pub enum Due {
     Never,
     At(u32),
 }
 
 // The holding place between TDR and the sender.
-#[derive(Drop)]
+#[derive(Clone, Copy)]
 pub enum Holding {
     Empty,
     Byte(u8),
 }
 
-#[derive(Drop)]
+#[derive(Clone, Copy)]
 pub struct Character {
     pub format: Format,
     pub word: u16,
 }
 
 // The next word, where one has been taken from the holding place.
-#[derive(Drop)]
+#[derive(Clone, Copy)]
 pub enum Loaded {
     Nothing,
     Next(Character),
 }
 
 // The sender: absent, or in one of document 01's five states.
-#[derive(Drop)]
+#[derive(Clone, Copy)]
 pub enum Tx {
     Off,
     Blocked {
@@ -61,7 +63,7 @@ pub enum Tx {
 }
 
 // A word being received. Position: -2 waits for a falling phase, -1 for the middle of the start cell.
-#[derive(Drop)]
+#[derive(Clone, Copy)]
 pub struct Rx {
     pub format: Format,
     pub value: u8,
@@ -71,14 +73,14 @@ pub struct Rx {
     pub next: Due,
 }
 
-#[derive(Drop)]
+#[derive(Clone, Copy)]
 pub enum Receiver {
     Idle,
     Busy(Rx),
 }
 
 // What a sample makes of the word in the receiver.
-#[derive(Drop)]
+#[derive(Clone, Copy)]
 pub enum Sampled {
     Dropped,
     Onward(Rx),

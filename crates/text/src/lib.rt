@@ -1,5 +1,6 @@
 // Text put into a lent buffer: bytes, numbers in decimal, hexadecimal digits. Every program's text is made of these.
 // `put_text` and `put_number` ask for room: their callers make texts of known greatest length in buffers of their own.
+#![tactic(auto)]
 ghost use Rattle.std.specs.Prelude.{◌≡◌, ◌+◌, ◌≤◌, ◌<◌, ◌*◌, ◌^◌, length};
 ghost use Rattle.store.specs.Store.{Stored};
 ghost use Rattle.text.specs.Decimal.{digits, decimal};

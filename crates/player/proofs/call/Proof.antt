@@ -1,5 +1,5 @@
 use Rattle.player.proofs.Laws.{call_as}
-use Rattle.std.proofs.Common.{rules}
+use borrow.Author.Rules.{rules}
 use Rattle.player.proofs.call.Statement.{statement}
 use Rattle.player.proofs.call.Tie as tie
 

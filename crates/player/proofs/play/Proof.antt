@@ -1,4 +1,4 @@
-use Rattle.std.proofs.Common.{rules}
+use borrow.Author.Rules.{rules}
 use Rattle.port.proofs.CallLaws.{tested}
 use Rattle.player.proofs.Laws.{play_tested, play_refused}
 use Rattle.player.proofs.play.Statement.{statement}

@@ -1,8 +1,13 @@
 -- `play_on` meets its contract. The invariant: the whole run is the records so far, and then the run of the items from here on. The measure is what is
 -- left of the script.
 -- Assumes nothing.
-use Rattle.std.proofs.Common.{◌≡◌, ◌-◌, ◌≤◌, true, length, take, drop, refl, ◌∙◌, arith, rules}
+use borrow.Author.Rules.{rules}
+use native.Mathlib.Omega.{arith}
+use mathlib.Core.Path.{◌≡◌, refl, ◌∙◌}
+use Prim.Native.Nat.{◌≤◌, ◌-◌}
+use lib.ListN.{length, take, drop}
 use borrow.Rule.Slice.PartMut.{put_mid}
+use mathlib.Core.Bool.{true}
 use Rattle.port.specs.Valid.{valid}
 use Rattle.machine.specs.Machine.{recorded}
 use Rattle.machine.proofs.Turns.{none_recorded}
@@ -13,27 +18,27 @@ use Rattle.player.proofs.play_on.Statement.{statement}
 use Rattle.player.proofs.play_on.Tie as tie
 
 abbrev invariant-loop : tie.invariant-loop
-invariant-loop script log₀ p₀ length₀ at₀ used₀ log p n at used =
-    (used ≤ length log) × (length log ≡ length log₀) × (play_on p₀ script log₀ ≡ recorded (take used log) (from_at (record { port = p; length = n }) script at (drop used log)))
+invariant-loop script log₀ p₀ at₀ used₀ log p at used =
+    (used ≤ length log) × (length log ≡ length log₀) × (play_on p₀ script log₀ ≡ recorded (take used log) (from_at p script at (drop used log)))
     × (valid p ≡ true)
 
 abbrev decreases-loop : tie.decreases-loop
-decreases-loop script log₀ p₀ length₀ at₀ used₀ log p n at used = length script - at
+decreases-loop script log₀ p₀ at₀ used₀ log p at used = length script - at
 
 -- a turn that goes on
 went : (c : tie.After-known-told2 invariant-loop decreases-loop) →
     Goes (play_on c.before.before.before.before.before.before.before.before.before.before.before.args.port c.before.before.before.before.before.before.before.before.before.before.before.args.script.now c.before.before.before.before.before.before.before.before.before.before.before.args.log.now) c.before.before.before.before.before.before.before.before.loop.used c.before.before.before.before.before.before.before.before.before.before.before.args.script.now c.before.before.before.before.before.before.before.before.loop.at c.before.before.before.before.before.before.before.before.loop.log
     (put_mid c.before.before.before.before.before.before.before.before.loop.used (length c.before.before.before.before.before.before.before.before.loop.log - c.before.before.before.before.before.before.before.before.loop.used) c.before.before.before.before.before.before.before.before.loop.log c.before.before.before.before.before.step.new.1.1.1.0)
-    (record { port = c.before.q.given.0.0; length = c.before.q.given.0.1.0 }) c.before.q.given.0.1.1.0
+    c.before.q.given.0.0 c.before.q.given.0.1.0
 went c =
     let l = c.before.before.before.before.before.before.before.before.loop in
-    port_goes_on _ (record { port = l.p; length = l.length }) l.used c.before.before.before.before.before.before.before.before.before.before.before.args.script.now l.at l.log _ _ l.invariant.0 c.before.before.before.before.before.before.before.loop-test.true l.invariant.2
+    port_goes_on _ l.p l.used c.before.before.before.before.before.before.before.before.before.before.before.args.script.now l.at l.log _ _ l.invariant.0 c.before.before.before.before.before.before.before.loop-test.true l.invariant.2
     c.before.before.before.before.before.step.ensures c.before.before.before.before.before.step.auto.1.1.1.0 c.before.q.given.1
 
 passes : (c : tie.After-known-told2 invariant-loop decreases-loop) → valid c.before.q.given.0.0 ≡ true
 passes c =
     let l = c.before.before.before.before.before.before.before.before.loop in
-    port_passes (play_on c.before.before.before.before.before.before.before.before.before.before.before.args.port c.before.before.before.before.before.before.before.before.before.before.before.args.script.now c.before.before.before.before.before.before.before.before.before.before.before.args.log.now) (record { port = l.p; length = l.length }) l.used c.before.before.before.before.before.before.before.before.before.before.before.args.script.now l.at l.log _ _ l.invariant.0 c.before.before.before.before.before.before.before.loop-test.true l.invariant.2
+    port_passes (play_on c.before.before.before.before.before.before.before.before.before.before.before.args.port c.before.before.before.before.before.before.before.before.before.before.before.args.script.now c.before.before.before.before.before.before.before.before.before.before.before.args.log.now) l.p l.used c.before.before.before.before.before.before.before.before.before.before.before.args.script.now l.at l.log _ _ l.invariant.0 c.before.before.before.before.before.before.before.loop-test.true l.invariant.2
     c.before.before.before.before.before.step.ensures c.before.before.before.before.before.step.auto.1.1.1.0 c.before.q.given.1
 
 loop-holds : tie.Need-loop-init invariant-loop decreases-loop
@@ -62,7 +67,7 @@ same_length c =
 returns : tie.Need-returns invariant-loop decreases-loop
 returns c =
     let l = c.before.before.before.before.before.before.before.before.loop in
-    port_stands _ (record { port = l.p; length = l.length }) l.used c.before.before.before.before.before.before.before.before.before.before.before.args.script.now l.at l.log _ _ l.invariant.0 c.before.before.before.before.before.before.before.loop-test.true l.invariant.2
+    port_stands _ l.p l.used c.before.before.before.before.before.before.before.before.before.before.before.args.script.now l.at l.log _ _ l.invariant.0 c.before.before.before.before.before.before.before.loop-test.true l.invariant.2
     c.before.before.before.before.before.step.ensures c.before.before.before.before.before.step.auto.1.1.1.0 c.before.reason.given.1
 
 enum-known-q : tie.Need-enum-known-q invariant-loop decreases-loop
@@ -83,7 +88,7 @@ same_length_2 c = search rules
 returns-2 : tie.Need-returns-2 invariant-loop decreases-loop
 returns-2 c =
     let l = c.before.loop in
-    port_finishes _ (record { port = l.p; length = l.length }) l.used c.before.before.before.before.args.script.now l.at l.log l.invariant.0 c.loop-test.false l.invariant.2
+    port_finishes _ l.p l.used c.before.before.before.before.args.script.now l.at l.log l.invariant.0 c.loop-test.false l.invariant.2
 
 pub play_on_spec : {M : Type 1} → statement M
 play_on_spec =

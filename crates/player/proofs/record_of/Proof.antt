@@ -1,5 +1,5 @@
 use Rattle.player.proofs.Laws.{record_made}
-use Rattle.std.proofs.Common.{rules}
+use borrow.Author.Rules.{rules}
 use Rattle.player.proofs.record_of.Statement.{statement}
 use Rattle.player.proofs.record_of.Tie as tie
 

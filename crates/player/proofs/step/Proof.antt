@@ -1,5 +1,6 @@
-use Rattle.std.proofs.Common.{sym, ◌∙◌, rules}
+use mathlib.Core.Path.{sym, ◌∙◌}
 use Rattle.player.proofs.Laws.{step_full, step_fault, step_refused, step_onward}
+use borrow.Author.Rules.{rules}
 use Rattle.player.proofs.step.Statement.{statement}
 use Rattle.player.proofs.step.Tie as tie
 

@@ -1,5 +1,7 @@
 use Rattle.player.proofs.Laws.{record_written}
-use Rattle.std.proofs.Common.{arith, length-set, rules}
+use native.Mathlib.Omega.{arith}
+use lib.ListN.{length-set}
+use borrow.Author.Rules.{rules}
 use Rattle.player.proofs.write_record.Statement.{statement}
 use Rattle.player.proofs.write_record.Tie as tie
 

@@ -7,16 +7,16 @@ use Rattle.machine.specs.Private.Step.{Turn, onward, stopped, step}
 use Rattle.script.specs.Items.{read_at}
 use Rattle.player.specs.declared.Stepped.{Stepped}
 use Rattle.player.specs.declared.Stepped.TheVariants.{Onward, Stopped}
-use Rattle.player.specs.Play.{Progress, record_length, room, items, started, act, reason_number}
+use Rattle.player.specs.Play.{record_length, room, items, act, reason_number}
 
 -- a step's answer, and the log after it
-abbrev pub stepped : Stepped → List ℕ → Turn Progress
-stepped (Onward q n next) log = onward (record { port = q; length = n }) next record_length log
+abbrev pub stepped : Stepped → List ℕ → Turn Port
+stepped (Onward q next) log = onward q next record_length log
 stepped (Stopped reason) log = stopped (reason_number reason) log
 
-unfoldable pub port_step : Progress → List ℕ → ℕ → List ℕ → Turn Progress
+unfoldable pub port_step : Port → List ℕ → ℕ → List ℕ → Turn Port
 port_step p s at log = step room act (read_at record_length s) p at log
 
 -- the whole script, without test 8
-abbrev pub play_on : Port → List ℕ → List ℕ → Run Progress
-play_on p s log = play_items room act (started p) (items s) log
+abbrev pub play_on : Port → List ℕ → List ℕ → Run Port
+play_on p s log = play_items room act p (items s) log

@@ -75,8 +75,8 @@ falling r = eqZ r.position (negsuc 1)
 unfoldable pub starting : Rx → Bool
 starting r = eqZ r.position (negsuc 0)
 
-unfoldable pub in-data : Rx → Bool
-in-data r = lt_z r.position (pos r.format.«data»)
+unfoldable pub in_data : Rx → Bool
+in_data r = lt_z r.position (pos r.format.«data»)
 
 unfoldable pub at_parity : Rx → Bool
 at_parity r = eqZ r.position (pos r.format.«data») && r.format.parity
