@@ -143,6 +143,7 @@ refused_not_0 c p q n offset e z = not_0 (subst (OneOf (8 ∷ 2 ∷ 1 ∷ 3 ∷ 
     not_0 (inr (inr (inl e))) = omega arith
     not_0 (inr (inr (inr (inl e)))) = omega arith
     not_0 (inr (inr (inr (inr (inl e))))) = omega arith
+    not_0 (inr (inr (inr (inr (inr e))))) = elim e [ ]
 
 -- on a port that passes the field test the call is all there is
 passing_tested : (c : Command) (p : Port) → valid p ≡ true → Tested p four (direct c p)
@@ -155,6 +156,7 @@ not_8 (inl e) = omega arith
 not_8 (inr (inl e)) = omega arith
 not_8 (inr (inr (inl e))) = omega arith
 not_8 (inr (inr (inr (inl e)))) = omega arith
+not_8 (inr (inr (inr (inr e)))) = elim e [ ]
 
 pub passing_not_8 : (c : Command) (p q : Port) (offset : ℕ) → valid p ≡ true → direct c p ≡ refused 8 offset q → ⊥
 passing_not_8 c p q offset e r = not_8 (subst (Stands p four) r (stands p four (direct c p) (passing_tested c p e))).2
