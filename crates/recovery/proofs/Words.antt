@@ -44,6 +44,12 @@ arm_busy : (f : Format) (r : Rx) (h : ℕ) (hi m : Bool) (s d n : ℕ) → v_arm
 unfolding v_arm
 arm_busy f r h hi m s d n = refl
 
+-- a receiver in a word is busy
+arm_phase : (f : Format) (bs : List Bool) (h k : ℕ) (x : Receiver) (hi m : Bool) (s d n : ℕ) → Phase f bs h k x → v_arm (state f x h hi m s d n) ≡ state f x h hi m s d n
+arm_phase f bs h k x hi m s d n (waiting q) = arm_busy f (rx_wait f (negsuc 1) (suc h)) h hi m s d n
+arm_phase f bs h k x hi m s d n (starting t e q lt lo up) = arm_busy f (rx_wait f (negsuc 0) t) h hi m s d n
+arm_phase f bs h k x hi m s d n (taking t e j q lt lo up le) = arm_busy f (rx_at f bs j t) h hi m s d n
+
 pub passed_zero : (f : Format) → 0 < f.half_bit → (is : List LineItem) → stop_cells_passed f is 0 ≡ 0
 unfolding stop_cells_passed
 passed_zero f h [] = refl
@@ -406,12 +412,8 @@ module _ (f : Format) (items : List LineItem) (r0 : ℕ) where
         rw (line_arms f h hi s d n plain (no_error c s d n b)) (between is (Busy (rx_wait f (negsuc 1) (fall h hi))) h hi false s d n waits b l a)
     line_keeps c ls v y (between is x h hi m s d n waits b l a) =
         rw (arm_busy f (rx_wait f (negsuc 1) (fall h hi)) h hi y s d n) (between is (Busy (rx_wait f (negsuc 1) (fall h hi))) h hi y s d n waits b l a)
-    line_keeps c ls v y (inside w k is x h hi m s d n (waiting q) b l a) =
-        rw (arm_busy f (rx_wait f (negsuc 1) (suc h)) h hi y s d n) (inside w k is (Busy (rx_wait f (negsuc 1) (suc h))) h hi y s d n (waiting q) b l a)
-    line_keeps c ls v y (inside w k is x h hi m s d n (starting t e q lt lo up) b l a) =
-        rw (arm_busy f (rx_wait f (negsuc 0) t) h hi y s d n) (inside w k is (Busy (rx_wait f (negsuc 0) t)) h hi y s d n (starting t e q lt lo up) b l a)
-    line_keeps c ls v y (inside w k is x h hi m s d n (taking t e j q lt lo up le) b l a) =
-        rw (arm_busy f (rx_at f (bits f.«data» w) j t) h hi y s d n) (inside w k is (Busy (rx_at f (bits f.«data» w) j t)) h hi y s d n (taking t e j q lt lo up le) b l a)
+    line_keeps c ls v y (inside w k is x h hi m s d n p b l a) =
+        rw (arm_phase f (bits f.«data» w) h k x hi y s d n p) (inside w k is x h hi y s d n p b l a)
 
     -- what the place says of the port
     pub record Shown (c : Count) (v : View) : Type 0 where
