@@ -1,4 +1,5 @@
-// SCI3 for programs in other languages: a port's state in a lent array of numbers, the direct calls on it, and the player of scripts.
+// SCI3 for programs in other languages: a port's state in a lent array of numbers, the direct calls on it, and the player of scripts. Rattle crates call
+// these functions, and so does crate capi_c, the static library by which C calls them.
 #![tactic(auto)]
 ghost use Rattle.std.specs.Prelude.{◌≡◌, true, cond, ◌+◌, ◌≤◌, ◌++◌, eqb, length, take};
 ghost use Rattle.frame.specs.Frame.{one_if};
@@ -621,7 +622,7 @@ fn store(s: &mut [u64], p: Port)
     put(s, 44, &line_words(p));
 }
 
-// ---- the exported functions
+// ---- the functions that capi_c exports
 fn direct(p: Port, kind: u32, a: u32, b: u32) -> Called
     ensures { answer result ≡ direct (command_of kind a b) p }
 {
@@ -653,8 +654,7 @@ fn call_left(s: &mut [u64], called: Called) -> u64
 }
 
 // Makes the direct call of a kind on the port in the array.
-#[unsafe(no_mangle)]
-pub extern "C" fn sci3_call(state: &mut [u64], kind: u32, a: u32, b: u32) -> u64
+pub fn sci3_call(state: &mut [u64], kind: u32, a: u32, b: u32) -> u64
     ensures { lent result state.new ≡ call kind a b state.old }
 {
     if is_state(state) {
@@ -701,8 +701,7 @@ fn pins_number(pins: Pins) -> u64
 }
 
 // The pins of the port in the array.
-#[unsafe(no_mangle)]
-pub extern "C" fn sci3_pins(state: &[u64]) -> u64
+pub fn sci3_pins(state: &[u64]) -> u64
     ensures { result ≡ pins_answer state.now }
 {
     if is_state(state) {
@@ -712,8 +711,7 @@ pub extern "C" fn sci3_pins(state: &[u64]) -> u64
 }
 
 // Whether the port in the array requests an interrupt.
-#[unsafe(no_mangle)]
-pub extern "C" fn sci3_interrupt(state: &[u64]) -> u64
+pub fn sci3_interrupt(state: &[u64]) -> u64
     ensures { result ≡ interrupt_answer state.now }
 {
     if is_state(state) {
@@ -723,8 +721,7 @@ pub extern "C" fn sci3_interrupt(state: &[u64]) -> u64
 }
 
 // Puts the port that every run begins with into the array.
-#[unsafe(no_mangle)]
-pub extern "C" fn sci3_fresh(state: &mut [u64]) -> u64
+pub fn sci3_fresh(state: &mut [u64]) -> u64
     ensures { lent result state.new ≡ fresh_state state.old }
 {
     if state.len() == STATE {
@@ -746,8 +743,7 @@ fn put_state(s: &mut [u64], number: u8, port: Port)
 
 // Plays a script on the port in the array. The answer is document 01's number, 0 where the script was accepted; told are the offset of the refused
 // command's first byte, else 0, and how many bytes of the log are written.
-#[unsafe(no_mangle)]
-pub extern "C" fn sci3_play(
+pub fn sci3_play(
     state: &mut [u64],
     script: &[u8],
     log: &mut [u8],

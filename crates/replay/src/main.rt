@@ -4,18 +4,25 @@
 // A case whose log's length is FFFF is a write instead: a number or a command is written into a buffer, and printed are the writer's answer and the buffer's
 // sum; `stdout` has what a writer in Rust makes of it. oracle/README.md has the layout of both, and the command that made both files.
 #![tactic(auto)]
-ghost use Rattle.std.specs.Prelude.{◌≤◌};
+
+ghost use Rattle.std.specs.Prelude.{◌≤◌, length};
 
 use capi::{sci3_fresh, sci3_play};
 use command::Command;
 use player::RECORD;
 use script::Written;
+use std::io::Read;
 
 const LOG: usize = 40960;
 // The log's length of a case that is a write.
 const WRITE: usize = 65535;
 // The kind of a write that only asks whether bytes fit.
 const FITS: usize = 8;
+
+// Writes a text to standard output. What could not be written is missing there, which whoever compares the output sees.
+fn put(out: &impl Print, text: &[u8]) {
+    let _ = out.write_all(text);
+}
 
 fn wide(byte: u8) -> usize
     ensures { result ≤ 255 }
@@ -65,7 +72,7 @@ fn low_digit(n: u64) -> u8 {
     text::hex_digit((n % 16) as u8)
 }
 
-fn print_sum(sum: u64) {
+fn print_sum(out: &impl Print, sum: u64) {
     let mut text = [61u8, 32, 48, 48, 48, 48, 48, 48, 48, 48, 10];
     text[9] = low_digit(sum);
     text[8] = low_digit(sum / 16);
@@ -75,24 +82,24 @@ fn print_sum(sum: u64) {
     text[4] = low_digit(sum / 1048576);
     text[3] = low_digit(sum / 16777216);
     text[2] = low_digit(sum / 268435456);
-    io::write_all(1, &text);
+    put(out, &text);
 }
 
 // The record at an offset of the log.
-fn print_record(log: &[u8], at: usize) {
+fn print_record(out: &impl Print, log: &[u8], at: usize) {
     if log.len() < RECORD {
         return;
     }
     if at <= log.len() - RECORD {
         let text = report::record_line(log[at], log[at + 1], log[at + 2], log[at + 3], log[at + 4]);
-        io::write_all(1, &text);
+        put(out, &text);
     }
 }
 
-fn print_records(log: &[u8], used: usize) {
+fn print_records(out: &impl Print, log: &[u8], used: usize) {
     let mut at: usize = 0;
     while at < used {
-        print_record(log, at);
+        print_record(out, log, at);
         if used - at < RECORD {
             return;
         }
@@ -100,36 +107,36 @@ fn print_records(log: &[u8], used: usize) {
     }
 }
 
-fn print_last(number: u64, offset: u64, halves: u64) {
+fn print_last(out: &impl Print, number: u64, offset: u64, halves: u64) {
     let mut text = [0u8; 64];
     if number == 0 {
         let end = report::end_line(&mut text, (halves % 4294967296) as u32);
-        io::write_all(1, &text[..end]);
+        put(out, &text[..end]);
         return;
     }
     let end = report::refused_line(&mut text, (number % 256) as u8, offset as usize);
-    io::write_all(1, &text[..end]);
+    put(out, &text[..end]);
 }
 
 // Plays a script on a fresh port and prints what it leaves.
-fn replay_on(script: &[u8], log: &mut [u8]) {
+fn replay_on(out: &impl Print, script: &[u8], log: &mut [u8]) {
     let mut state = [0u64; 53];
     let mut told = [0u64; 2];
     sci3_fresh(&mut state);
     let number = sci3_play(&mut state, script, log, &mut told);
-    print_records(log, told[1] as usize);
-    print_last(number, told[0], state[14]);
+    print_records(out, log, told[1] as usize);
+    print_last(out, number, told[0], state[14]);
     let sum = with_bytes(2166136261, log);
-    print_sum(with_numbers(sum, &state));
+    print_sum(out, with_numbers(sum, &state));
 }
 
 // The same with a log of so many bytes.
-fn replay(script: &[u8], room: usize) {
+fn replay(out: &impl Print, script: &[u8], room: usize) {
     if room > LOG {
         return;
     }
     let mut log = [0xAAu8; 40960];
-    replay_on(script, &mut log[0..room]);
+    replay_on(out, script, &mut log[0..room]);
 }
 
 // Numbers of a case, low byte first; 0 where the case ends before.
@@ -194,32 +201,30 @@ fn written(buf: &mut [u8], s: &[u8]) -> Written {
     script::write_command(buf, at, command(kind, a, four_bytes(s, 6) as u32))
 }
 
-fn print_written(answer: Written) {
+fn print_written(out: &impl Print, answer: Written) {
     match answer {
         Written::To(end) => {
-            io::write_all(1, b"to ");
-            io::print_decimal(1, end as u64);
-            io::write_all(1, b"\n");
+            let _ = println!(out; "to {end}");
         }
         Written::Full => {
-            io::write_all(1, b"full\n");
+            put(out, b"full\n");
         }
     }
 }
 
-fn write_on(s: &[u8], buf: &mut [u8]) {
-    print_written(written(buf, s));
-    print_sum(with_bytes(2166136261, buf));
+fn write_on(out: &impl Print, s: &[u8], buf: &mut [u8]) {
+    print_written(out, written(buf, s));
+    print_sum(out, with_bytes(2166136261, buf));
 }
 
 // A write: of its buffer's length, or only the test.
-fn write(s: &[u8]) {
+fn write(out: &impl Print, s: &[u8]) {
     let length = eight_bytes(s, 10);
     if two_bytes(s, 0) == FITS {
         if store::fits(length, eight_bytes(s, 18), eight_bytes(s, 2)) {
-            io::write_all(1, b"fits\n");
+            put(out, b"fits\n");
         } else {
-            io::write_all(1, b"full\n");
+            put(out, b"full\n");
         }
         return;
     }
@@ -227,11 +232,11 @@ fn write(s: &[u8]) {
         return;
     }
     let mut buf = [0xAAu8; 32];
-    write_on(s, &mut buf[0..length]);
+    write_on(out, s, &mut buf[0..length]);
 }
 
 // Replays the case at an offset, or makes its write, and answers the offset of the next, or the list's end.
-fn replay_at(s: &[u8], at: usize) -> usize {
+fn replay_at(out: &impl Print, s: &[u8], at: usize) -> usize {
     if s.len() < 4 {
         return s.len();
     }
@@ -246,31 +251,50 @@ fn replay_at(s: &[u8], at: usize) -> usize {
     }
     let end = start + length;
     if room == WRITE {
-        write(&s[start..end]);
+        write(out, &s[start..end]);
     } else {
-        replay(&s[start..end], room);
+        replay(out, &s[start..end], room);
     }
     end
 }
 
 // Replays the whole list, at most 65,535 cases, and answers how many there were.
-fn replay_all(s: &[u8]) -> u32 {
+fn replay_all(out: &impl Print, s: &[u8]) -> u32 {
     let mut at: usize = 0;
     let mut left: u32 = 65535;
     while 0 < left {
         if s.len() <= at {
             return 65535 - left;
         }
-        at = replay_at(s, at);
+        at = replay_at(out, s, at);
         left -= 1;
     }
     65535
 }
 
-fn main() {
+// Reads until the buffer is full, the input ends or a read fails, and answers how many bytes were read.
+fn read_full<R: Read>(input: &mut R, buf: &mut [u8]) -> usize
+    ensures { result ≤ length buf.new }
+{
+    let mut done: usize = 0;
+    while done < buf.len() {
+        match input.read(&mut buf[done..]) {
+            Ok(more) => {
+                if more == 0 {
+                    return done;
+                }
+                done = done + more;
+            }
+            Err(_) => return done,
+        }
+    }
+    done
+}
+
+fn main(rt: HostRuntime) {
+    let out = rt.stdout();
     let mut list = [0u8; 294912];
-    let n = io::read_full(0, &mut list);
-    let cases = replay_all(&list[..n]);
-    io::print_decimal(1, cases as u64);
-    io::write_all(1, b" cases\n");
+    let n = read_full(&mut rt.stdin(), &mut list);
+    let cases = replay_all(&out, &list[..n]);
+    let _ = println!(out; "{cases} cases");
 }

@@ -4,14 +4,11 @@ use mathlib.Core.Path.{◌≡◌, refl, ap, ◌∙◌}
 use mathlib.Core.List.{List, [], ◌∷◌, ◌++◌}
 use Prim.Native.Nat.{ℕ, zero, suc, ◌+◌, ◌-◌, ◌*◌, ◌/◌, ◌%◌, ◌^◌, ◌≤◌, ◌<◌}
 use native.Mathlib.Omega.{arith, pow_step}
-use lib.ListN.{length, take, drop, length-append}
-use lib.Seq.{take-length}
-use borrow.Rule.Slice.PartMut.{put_mid}
+use lib.ListN.{length, drop, length-append}
 use lib.Dec.{ltb}
 use borrow.Author.Tests.{lt-ltb, le-ltb}
 use Rattle.store.specs.Store.{Stored}
 use Rattle.branches.proofs.Branches.{either_way}
-use Rattle.store.proofs.Laws.{part_stored}
 use Rattle.text.specs.Decimal.{digit, digits}
 use Rattle.text.specs.Text.{Printed, printed, in-front}
 
@@ -40,11 +37,6 @@ digits_long (suc k) v =
     either_way (ltb v 10)
     (λ t. rw t (omega arith))
     (λ t. rw (t, length-append) (omega (arith, digits_long k (v / 10))))
-
--- a text copied to the front of the part from `at` on, which is then `ys`
-pub copied : (at n : ℕ) (text buf ys : List ℕ) → n ≡ length text → ys ≡ take (length text) text ++ drop (length text) (take (length buf - at) (drop at buf)) →
-    Stored at text buf (at + n) (put_mid at (length buf - at) buf ys)
-copied at n text buf ys l e = part_stored at n text buf ys l (e ∙ rw (take-length text))
 
 -- a text stored at the front of the buffer is a text there
 pub at_front : {text buf after : List ℕ} {to : ℕ} → Stored 0 text buf to after → printed to after ≡ in-front text buf

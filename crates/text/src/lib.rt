@@ -1,6 +1,7 @@
 // Text put into a lent buffer: bytes, numbers in decimal, hexadecimal digits. Every program's text is made of these.
 // `put_text` and `put_number` ask for room: their callers make texts of known greatest length in buffers of their own.
 #![tactic(auto)]
+
 ghost use Rattle.std.specs.Prelude.{◌≡◌, ◌+◌, ◌≤◌, ◌<◌, ◌*◌, ◌^◌, length};
 ghost use Rattle.store.specs.Store.{Stored};
 ghost use Rattle.text.specs.Decimal.{digits, decimal};
@@ -24,7 +25,9 @@ pub fn put_text(buf: &mut [u8], at: usize, text: &[u8]) -> usize
     requires { at + length text.now ≤ length buf.old }
     ensures { Stored at text.now buf.old result buf.new }
 {
-    at + bytes::copy(text, &mut buf[at..])
+    let end = at + text.len();
+    buf[at..end].copy_from_slice(text);
+    end
 }
 
 // Writes a number in decimal at an offset, in at most `more` digits after the first, and gives the offset after it.
