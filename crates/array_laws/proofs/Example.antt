@@ -36,6 +36,6 @@ unfolding computes state_after
 at_edge = refl
 
 -- the same in numbers, through the array: module, main clock, subclock, reset mode, half count, phase, edge
-in-numbers : take 7 (drop 10 (array_after (encode fresh) unknown_kind)) ≡ 1 ∷ 1 ∷ 0 ∷ 0 ∷ 32 ∷ 1 ∷ 1 ∷ []
+in_numbers : take 7 (drop 10 (array_after (encode fresh) unknown_kind)) ≡ 1 ∷ 1 ∷ 0 ∷ 0 ∷ 32 ∷ 1 ∷ 1 ∷ []
 unfolding computes state_after call decode fits port_in port_of due_in holding_in format_in character_in tx_in tx_of tail_of word_in rx_in position_of encode
-in-numbers = refl
+in_numbers = refl

@@ -64,8 +64,8 @@ within (Two m n) vs = leb (get_or vs 0 0) m && leb (get_or vs 1 0) n
 within Unknown vs = false
 
 -- no operand of a command is above its range; else it is refused by 2
-abbrev pub in-range : Command → Bool
-in-range c = within (operands_of (kind c)) (operands c)
+abbrev pub in_range : Command → Bool
+in_range c = within (operands_of (kind c)) (operands c)
 
 abbrev pub InRange : Command → Type 0
-InRange c = in-range c ≡ true
+InRange c = in_range c ≡ true

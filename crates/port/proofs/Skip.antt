@@ -87,9 +87,9 @@ one_counted : (p : Port) → counted p ≡ counted_by 1 p
 unfolding counted_by
 one_counted p = ap₂ (λ (n : ℕ) (b : Bool). at_half n b p) (omega arith) (not_differ p.high)
 
-then-counted : (k : ℕ) (p : Port) → counted_by k (counted p) ≡ counted_by (suc k) p
+then_counted : (k : ℕ) (p : Port) → counted_by k (counted p) ≡ counted_by (suc k) p
 unfolding counted_by
-then-counted k p =
+then_counted k p =
     ap₂ (λ (n : ℕ) (b : Bool). at_half n b p) (omega arith) (differ_not p.high _ ∙ ap (differ p.high) (sym (odd_suc k)))
 
 -- ---- a half on which nothing happens
@@ -137,7 +137,7 @@ unfolding halves
 skip zero p r l x s = one_half p r (omega (arith, l)) x
 skip (suc k) p r l x s =
     let c : half_step p ≡ counted p = half_once r (omega (arith, l)) x ∙ advance_still k p x s in
-    ap (halves (suc k)) c ∙ skip k (counted p) (keep_counted r (omega (arith, l))) (omega (arith, l)) x (still_counted k p s) ∙ ap advance (then-counted (suc k) p)
+    ap (halves (suc k)) c ∙ skip k (counted p) (keep_counted r (omega (arith, l))) (omega (arith, l)) x (still_counted k p s) ∙ ap advance (then_counted (suc k) p)
 
 -- k halves that all only count
 all_still : {n : ℕ} (k : ℕ) (p : Port) → Ready n p → n + suc k ≤ limit → external p ≡ false → Still (suc k) p → halves (suc k) p ≡ counted_by (suc k) p
@@ -145,7 +145,7 @@ unfolding halves
 all_still zero p r l x s = half_once r (omega (arith, l)) x ∙ advance_still zero p x s ∙ one_counted p
 all_still (suc k) p r l x s =
     let c : half_step p ≡ counted p = half_once r (omega (arith, l)) x ∙ advance_still (suc k) p x s in
-    ap (halves (suc k)) c ∙ all_still k (counted p) (keep_counted r (omega (arith, l))) (omega (arith, l)) x (still_counted (suc k) p s) ∙ then-counted (suc k) p
+    ap (halves (suc k)) c ∙ all_still k (counted p) (keep_counted r (omega (arith, l))) (omega (arith, l)) x (still_counted (suc k) p s) ∙ then_counted (suc k) p
 
 idle_still : (n : ℕ) (p : Port) → idle_for n p ≡ true → Still n p
 unfolding idle_for

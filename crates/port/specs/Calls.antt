@@ -3,7 +3,7 @@
 use Rattle.std.specs.Prelude.{ℕ, ◌+◌, Bool, cond, not, ◌&&◌, List, [], ◌∷◌, ◌==◌, nat_le}
 use Rattle.command.specs.declared.Command.{Command}
 use Rattle.command.specs.declared.Command.TheVariants.{Read, Write, Wait, Line, Pins, Power, Inside}
-use Rattle.command.specs.Command.{in-range}
+use Rattle.command.specs.Command.{in_range}
 use Rattle.frame.specs.Frame.{has}
 use Rattle.port.specs.declared.Port.{Port}
 use Rattle.port.specs.declared.Refusal.{Refusal}
@@ -51,7 +51,7 @@ ranged most Inside p = done 0 (inside p)
 
 -- test 2 first, by the table of kinds
 abbrev pub called_within : ℕ → Command → Port → Answer
-called_within most c p = cond (in-range c) (ranged most c p) (refuse 2 p)
+called_within most c p = cond (in_range c) (ranged most c p) (refuse 2 p)
 
 unfoldable pub called : Command → Port → Answer
 called c p = called_within limit c p

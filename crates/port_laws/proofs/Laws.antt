@@ -21,7 +21,7 @@ use Rattle.port.specs.Valid.{limit, valid}
 use Rattle.command.specs.declared.Command.{Command}
 use Rattle.command.specs.declared.Command.TheVariants.{Read, Write, Wait, Line, Pins, Power, Inside}
 use Rattle.port.specs.Calls.{Answer, done, refused, after, refuse, bit, called, direct, run}
-use Rattle.port_laws.specs.Laws.{FreshPasses, KeepsFieldTest, AcceptedPasses, GrownPasses, NeverRefusedBy8, OneOf, RefusedStands, TalliesWrap, WholeWordCounts, TailEndCounts, HalfCounts, PinEdgeCounts, CallCounts, TalliesCount, receives, finishes, in-calls}
+use Rattle.port_laws.specs.Laws.{FreshPasses, KeepsFieldTest, AcceptedPasses, GrownPasses, NeverRefusedBy8, OneOf, RefusedStands, TalliesWrap, WholeWordCounts, TailEndCounts, HalfCounts, PinEdgeCounts, CallCounts, TalliesCount, receives, finishes, in_calls}
 use Rattle.branches.proofs.Branches.{by_cond, both_arms}
 use Rattle.port.proofs.CallLaws.{internal_external}
 use Rattle.port.proofs.SenderKeeps.{StartClosed, free_start, begin_keeps, try_keeps}
@@ -215,6 +215,6 @@ call_counts c p = (
 pub tallies_count : TalliesCount
 unfolding TalliesCount fresh
 tallies_count cs = (
-  run_counts (λ (q : Port). q.received) receives (λ p q s. s.0) half_receives pin_receives cs fresh ∙ from_zero (in-calls receives fresh cs),
-  run_counts (λ (q : Port). q.transmitted) finishes (λ p q s. s.1) half_finishes pin_finishes cs fresh ∙ from_zero (in-calls finishes fresh cs),
+  run_counts (λ (q : Port). q.received) receives (λ p q s. s.0) half_receives pin_receives cs fresh ∙ from_zero (in_calls receives fresh cs),
+  run_counts (λ (q : Port). q.transmitted) finishes (λ p q s. s.1) half_finishes pin_finishes cs fresh ∙ from_zero (in_calls finishes fresh cs),
 )

@@ -24,7 +24,7 @@ use Rattle.branches.proofs.Branches.{by_cond, both_arms}
 use Rattle.port.proofs.Checked.{valid_ready}
 use Rattle.port_laws.proofs.KeepReceiver.{Storable}
 use Rattle.port_laws.proofs.KeepValid.{valid_sound}
-use Rattle.port_laws.proofs.KeepRanges.{Within, or_byte, in-read, in-write, in_halves, in-uncounted, in-line, in-pins, in-power, in-fresh}
+use Rattle.port_laws.proofs.KeepRanges.{Within, or_byte, in_read, in_write, in_halves, in_uncounted, in_line, in_pins, in_power, in_fresh}
 
 -- ---- the three registers
 pub record Three (p : Port) : Type 0 where
@@ -54,22 +54,22 @@ called_within c p e k = go c
     same = record { ranges = k }
 
     go : (c : Command) → WithinAfter (called c p)
-    go (Read a) = both_arms WithinAfter (leb a 65535) _ _ (both_arms WithinAfter (handles a) _ _ (record { ranges = in-read p k a }) same) same
+    go (Read a) = both_arms WithinAfter (leb a 65535) _ _ (both_arms WithinAfter (handles a) _ _ (record { ranges = in_read p k a }) same) same
     go (Write a v) =
         by_cond WithinAfter (leb a 65535 && leb v 255) _ _
         (λ f. let small : v < 256 = omega (arith, leb-true v 255 (and_right (leb a 65535) (leb v 255) f)) in
-        both_arms WithinAfter (handles a) _ _ (both_arms WithinAfter (eqb a 0xffa7 && leb 128 v) _ _ same (record { ranges = in-write a v p small k })) same) (λ f. same)
+        both_arms WithinAfter (handles a) _ _ (both_arms WithinAfter (eqb a 0xffa7 && leb 128 v) _ _ same (record { ranges = in_write a v p small k })) same) (λ f. same)
     go (Wait n) =
         both_arms WithinAfter (leb n 65535) _ _
         (both_arms WithinAfter (internal p) _ _
         (by_cond WithinAfter (leb (p.half + n) limit) _ _ (λ f. record { ranges = in_halves n p.half p (valid_ready p e) k (leb-true (p.half + n) limit f) }) (λ f. same))
-        (record { ranges = in-uncounted n p k })) same
-    go (Line line) = both_arms WithinAfter (leb line 1) _ _ (record { ranges = in-line (bit line) p k }) same
+        (record { ranges = in_uncounted n p k })) same
+    go (Line line) = both_arms WithinAfter (leb line 1) _ _ (record { ranges = in_line (bit line) p k }) same
     go (Pins clock line) =
         both_arms WithinAfter (leb clock 1 && leb line 1) _ _
         (by_cond WithinAfter (pins_change (bit clock) (bit line) p && (edge_counts (bit clock) p && leb limit p.half)) _ _ (λ f. same)
-        (λ f. record { ranges = in-pins (bit clock) (bit line) p (valid_ready p e) k f })) same
-    go (Power b) = both_arms WithinAfter (leb b 15) _ _ (record { ranges = in-power (has b 1) (has b 2) (has b 4) (has b 8) p k }) same
+        (λ f. record { ranges = in_pins (bit clock) (bit line) p (valid_ready p e) k f })) same
+    go (Power b) = both_arms WithinAfter (leb b 15) _ _ (record { ranges = in_power (has b 1) (has b 2) (has b 4) (has b 8) p k }) same
     go Inside = record { ranges = k }
 
 pub direct_in_range : (c : Command) (p : Port) → InRange p → Within (after (direct c p))
@@ -79,7 +79,7 @@ direct_in_range c p k =
 
 pub fresh_in_range : FreshInRange
 unfolding FreshInRange
-fresh_in_range = in-fresh
+fresh_in_range = in_fresh
 
 pub keeps_ranges : KeepsRanges
 unfolding KeepsRanges
@@ -92,7 +92,7 @@ run_in_range (c ∷ cs) p k = run_in_range cs (after (direct c p)) (direct_in_ra
 
 pub grown_in_range : GrownInRange
 unfolding GrownInRange
-grown_in_range cs = run_in_range cs fresh in-fresh
+grown_in_range cs = run_in_range cs fresh in_fresh
 
 -- ---- the answer
 abbrev Byte : Answer → Type 0

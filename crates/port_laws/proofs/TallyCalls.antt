@@ -22,7 +22,7 @@ use Rattle.port.specs.Valid.{limit, valid}
 use Rattle.command.specs.declared.Command.{Command}
 use Rattle.command.specs.declared.Command.TheVariants.{Read, Write, Wait, Line, Pins, Power, Inside}
 use Rattle.port.specs.Calls.{Answer, after, refuse, bit, called, direct, run}
-use Rattle.port_laws.specs.Laws.{wrap, tally, grown, finishes, receives, rises, in_halves, pins_set, in-call, in-calls}
+use Rattle.port_laws.specs.Laws.{wrap, tally, grown, finishes, receives, rises, in_halves, pins_set, in_call, in_calls}
 use Rattle.branches.proofs.Branches.{by_cond, both_arms}
 use Rattle.port.proofs.CallLaws.{internal_external}
 use Rattle.port.proofs.SenderKeeps.{StartClosed, free_start, try_keeps, load_tail_keeps}
@@ -148,7 +148,7 @@ module _ (field : Port → ℕ) (f : Bool → Port → Bool) (stands : (p q : Po
 
   -- an answer to the call c on the port p counts as the law says
   abbrev Counts : Command → Port → Answer → Type 0
-  Counts c p r = field (after r) ≡ grown (in-call f c r p) (field p)
+  Counts c p r = field (after r) ≡ grown (in_call f c r p) (field p)
 
   called_counts : (c : Command) (p : Port) → Kept p.half p → Counts c p (called c p)
   unfolding called grown
@@ -178,12 +178,12 @@ module _ (field : Port → ℕ) (f : Bool → Port → Bool) (stands : (p q : Po
   unfolding direct grown
   direct_counts c p = by_cond (Counts c p) (valid p) (called c p) (refuse 8 p) (λ e. called_counts c p (valid_sound p e).kept) (λ e. refl)
 
-  pub run_counts : (cs : List Command) (p : Port) → field (run p cs) ≡ grown (in-calls f p cs) (field p)
-  unfolding run in-calls grown
+  pub run_counts : (cs : List Command) (p : Port) → field (run p cs) ≡ grown (in_calls f p cs) (field p)
+  unfolding run in_calls grown
   run_counts [] p = refl
   run_counts (c ∷ cs) p =
       let q : Port = after (direct c p) in
-      run_counts cs q ∙ ap (grown (in-calls f q cs)) (direct_counts c p) ∙ grown_grown (in-call f c (direct c p) p) (in-calls f q cs) (field p)
+      run_counts cs q ∙ ap (grown (in_calls f q cs)) (direct_counts c p) ∙ grown_grown (in_call f c (direct c p) p) (in_calls f q cs) (field p)
 
 -- a fresh port's tallies are 0
 pub from_zero : (n : ℕ) → grown n 0 ≡ n % wrap

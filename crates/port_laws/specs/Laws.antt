@@ -135,30 +135,30 @@ in_halves f (suc n) p = one_if (f (rises p) p) + in_halves f n (half_step p)
 abbrev pub pins_set : Bool → Bool → Port → Port
 pins_set clock line p = with_input_clock (receive_input line p) clock
 
-abbrev pub in-call : (Bool → Port → Bool) → Command → Answer → Port → ℕ
-in-call f c (refused n offset q) p = 0
-in-call f (Read a) (done v q) p = 0
-in-call f (Write a x) (done v q) p = 0
-in-call f (Wait n) (done v q) p = cond (internal p) (in_halves f n p) 0
-in-call f (Line line) (done v q) p = 0
-in-call f (Pins clock line) (done v q) p =
+abbrev pub in_call : (Bool → Port → Bool) → Command → Answer → Port → ℕ
+in_call f c (refused n offset q) p = 0
+in_call f (Read a) (done v q) p = 0
+in_call f (Write a x) (done v q) p = 0
+in_call f (Wait n) (done v q) p = cond (internal p) (in_halves f n p) 0
+in_call f (Line line) (done v q) p = 0
+in_call f (Pins clock line) (done v q) p =
     let w = pins_set (bit clock) (bit line) p in
     one_if (pins_change (bit clock) (bit line) p && (edge_counts (bit clock) w && f (bit clock) w))
-in-call f (Power b) (done v q) p = 0
-in-call f Inside (done v q) p = 0
+in_call f (Power b) (done v q) p = 0
+in_call f Inside (done v q) p = 0
 
-unfoldable pub in-calls : (Bool → Port → Bool) → Port → List Command → ℕ
-in-calls f p [] = 0
-in-calls f p (c ∷ cs) = in-call f c (direct c p) p + in-calls f (after (direct c p)) cs
+unfoldable pub in_calls : (Bool → Port → Bool) → Port → List Command → ℕ
+in_calls f p [] = 0
+in_calls f p (c ∷ cs) = in_call f c (direct c p) p + in_calls f (after (direct c p)) cs
 
 -- no call changes a tally but by these halves and edges
 unfoldable pub CallCounts : Type 0
 CallCounts =
     (c : Command) (p : Port) → let q = after (direct c p) in
-    (q.received ≡ grown (in-call receives c (direct c p) p) p.received) × (q.transmitted ≡ grown (in-call finishes c (direct c p) p) p.transmitted)
+    (q.received ≡ grown (in_call receives c (direct c p) p) p.received) × (q.transmitted ≡ grown (in_call finishes c (direct c p) p) p.transmitted)
 
 -- so on a port grown from a fresh one they are the numbers of such words, modulo 2 to the 64th
 unfoldable pub TalliesCount : Type 0
 TalliesCount =
     (cs : List Command) → let q = run fresh cs in
-    (q.received ≡ in-calls receives fresh cs % wrap) × (q.transmitted ≡ in-calls finishes fresh cs % wrap)
+    (q.received ≡ in_calls receives fresh cs % wrap) × (q.transmitted ≡ in_calls finishes fresh cs % wrap)

@@ -142,10 +142,10 @@ module _ (f : Format) (long : 16 ≤ f.half_bit) (st : 0 < f.stops) where
   InStopCell is k = (w : NthWord is (stop_cells_passed f is k)) × (cell_begins f w.earlier ≤ k) × (k < cell_ends f w.earlier)
 
   -- a first stop cell that has begun and not passed
-  in-stop-cell : (is : List LineItem) (k : ℕ) → stop_cells_passed f is k < stop_cells_begun f is (suc k) → InStopCell is k
+  in_stop_cell : (is : List LineItem) (k : ℕ) → stop_cells_passed f is k < stop_cells_begun f is (suc k) → InStopCell is k
   unfolding behind stop_cells_begun stop_cells_passed span_of words_in
-  in-stop-cell [] k h = let z : ⊥ = omega arith in absurd z
-  in-stop-cell (mark n ∷ is) k h = go (in-stop-cell is (k - n)) (leb n k) refl
+  in_stop_cell [] k h = let z : ⊥ = omega arith in absurd z
+  in_stop_cell (mark n ∷ is) k h = go (in_stop_cell is (k - n)) (leb n k) refl
     where
       go : (stop_cells_passed f is (k - n) < stop_cells_begun f is (suc (k - n)) → InStopCell is (k - n)) → (b : Bool) → leb n k ≡ b → InStopCell (mark n ∷ is) k
       go ih true e =
@@ -158,7 +158,7 @@ module _ (f : Format) (long : 16 ≤ f.half_bit) (st : 0 < f.stops) where
           let g : suc k - n ≡ 0 = omega arith in
           let z : ⊥ = omega (arith, begun_zero f is, rw g at h) in
           absurd z
-  in-stop-cell (word_of v ∷ is) k h = go (in-stop-cell is (k - span f)) (leb (span f) k) refl
+  in_stop_cell (word_of v ∷ is) k h = go (in_stop_cell is (k - span f)) (leb (span f) k) refl
     where
       here : (x y : Bool) → ltb (stop f * f.half_bit) (suc k) ≡ x → leb (suc (stop f) * f.half_bit) k ≡ y → one_if y + stop_cells_passed f is 0 < one_if x + 0
           → (stop f * f.half_bit ≤ k) × (k < suc (stop f) * f.half_bit) × (y ≡ false)
@@ -204,10 +204,10 @@ module _ (first : Port) (items : List LineItem) (ms : List Moment) (al : through
       = subst (λ (is : List LineItem). Between (format_of first) is (span_of (format_of first) xs + j) (completed ms (span_of (format_of first) xs + j))) e (sure (span_of (format_of first) xs + j) l) in
       omega (arith, b.least, b.most, begun_past (format_of first) cell_is_long has_stop xs zs j, passed_past (format_of first) cell_is_long has_stop xs zs j)
 
-  in-mark : (xs ys : List LineItem) (n k : ℕ) → items ≡ xs ++ (mark n ∷ ys) → k ≤ n → span_of (format_of first) xs + k ≤ halves_in ms
+  in_mark : (xs ys : List LineItem) (n k : ℕ) → items ≡ xs ++ (mark n ∷ ys) → k ≤ n → span_of (format_of first) xs + k ≤ halves_in ms
       → completed ms (span_of (format_of first) xs + k) ≡ words_in xs
   unfolding stop_cells_begun
-  in-mark xs ys n k e h l =
+  in_mark xs ys n k e h l =
       let g : k - n ≡ 0 = omega arith in
       as_before xs (mark n ∷ ys) k e (ap (stop_cells_begun (format_of first) ys) g ∙ begun_zero (format_of first) ys) l
 
@@ -255,7 +255,7 @@ module _ (first : Port) (items : List LineItem) (ms : List Moment) (al : through
       let c : stop_cells_begun (format_of first) items (suc k) ≤ suc (stop_cells_passed (format_of first) items k) = begun_near (format_of first) cell_is_long has_stop items k in
       let q : stop_cells_passed (format_of first) items k ≡ completed ms k = omega arith in
       subst (λ (n : ℕ). (w : NthWord items n) × (cell_begins (format_of first) w.earlier ≤ k) × (k < cell_ends (format_of first) w.earlier)) q
-      (in-stop-cell (format_of first) cell_is_long has_stop items k (omega arith))
+      (in_stop_cell (format_of first) cell_is_long has_stop items k (omega arith))
 
 pub demanded : (port : Command → Port → Answer) → Recovers port → Demand port
 unfolding Recovers Demand tally_after
@@ -272,8 +272,8 @@ demanded port claim history rest words items he rs ws =
       none_in_mark = λ xs ys n k e h l.
           let x : ℕ = span_of (format_of r.port) xs in
           let z : x + 0 ≡ x = omega arith in
-          let a : completed ms (x + 0) ≡ words_in xs = in-mark r.port items ms al xs ys n 0 e (omega arith) (omega arith) in
-          let b : completed ms (x + k) ≡ words_in xs = in-mark r.port items ms al xs ys n k e h l in
+          let a : completed ms (x + 0) ≡ words_in xs = in_mark r.port items ms al xs ys n 0 e (omega arith) (omega arith) in
+          let b : completed ms (x + k) ≡ words_in xs = in_mark r.port items ms al xs ys n k e h l in
           omega (arith, rw z at a, b);
       rdrf_first = c.at_first.rdrf;
       rdrf = rdrf_is r.port items ms r.port none_yet c.at_first.rdrf al;

@@ -172,8 +172,8 @@ module _ (first : Port) (items : List LineItem) (all : List Moment) (rd : ReadBe
         = omega (arith, held.least, there, ap (λ (x : Count). x.completions) same, counts_grow m.0 (count_after c (rdr_read r.answer))) in
         ap (λ (x : Count). x.unread) same ∙ stays_read m.0 (count_after c (rdr_read r.answer)) refl none
 
-    in-time : (counts none_yet past).unread ≡ false
-    in-time = go (counts none_yet past).completions refl
+    in_time : (counts none_yet past).unread ≡ false
+    in_time = go (counts none_yet past).completions refl
       where
         go : (n : ℕ) → (counts none_yet past).completions ≡ n → (counts none_yet past).unread ≡ false
         go zero q = stays_read past none_yet refl q
@@ -192,7 +192,7 @@ module _ (first : Port) (items : List LineItem) (all : List Moment) (rd : ReadBe
       record {
         now = λ c p ms w s e.
             subst (λ (k : Count). k.unread ≡ false) s.count
-            (in-time s.past ms (half_moment first items plain p) s.split refl s.held
+            (in_time s.past ms (half_moment first items plain p) s.split refl s.held
             (subst (λ (k : Count). suc k.completions ≤ stop_cells_begun (format_of first) items (suc k.halves)) (sym s.count) (completes_inside first items plain c (levels ms) p w e)));
         later = λ c m ms h s.
             record {
@@ -213,7 +213,7 @@ module _ (first : Port) (items : List LineItem) (all : List Moment) (rd : ReadBe
         go : (x : Event) → m.event ≡ x → (count_after (counts none_yet past) m.event).completions ≤ stop_cells_begun (format_of first) items (count_after (counts none_yet past) m.event).halves
             → throughout first items none_yet past → read_before x (counts none_yet past)
         go (half_passes l true) g most u =
-            in-time past ms m e (ap is_half g) u
+            in_time past ms m e (ap is_half g) u
             (subst (λ (y : Event). (count_after (counts none_yet past) y).completions ≤ stop_cells_begun (format_of first) items (count_after (counts none_yet past) y).halves) g most)
         go (half_passes l false) g most u = tt
         go (rdr_read a) g most u = tt

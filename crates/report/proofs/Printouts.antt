@@ -26,7 +26,7 @@ use Rattle.player.specs.Play.{record_length, reason_number, end_number, end_offs
 use Rattle.player.proofs.Used.{within}
 use Rattle.store.specs.Store.{Stored}
 use Rattle.store.proofs.Laws.{both_stored, room_after}
-use Rattle.text.specs.Text.{printed, in-front}
+use Rattle.text.specs.Text.{printed, in_front}
 use Rattle.report.specs.Lines.{record_line, end_line, refused_line}
 use Rattle.report.specs.Printout.{first_line, record_lines, last_line, longest, log_length, too_long, printout}
 use Rattle.text.proofs.Laws.{at_front}
@@ -92,7 +92,7 @@ module _ (log : List ℕ) (n : ℕ) {end : ℕ} {before now_is : List ℕ} (so_f
 -- ---- the whole text
 
 pub too_long_text : (script : List ℕ) {before after : List ℕ} {to : ℕ} → longest < length script → Stored 0 too_long before to after →
-    printed to after ≡ in-front (printout script) before
+    printed to after ≡ in_front (printout script) before
 unfolding printout
 too_long_text script h s = rw (lt-ltb longest (length script) h) (at_front s)
 
@@ -110,6 +110,6 @@ module _ (script log : List ℕ) (x : Played) (run : ran x log ≡ play fresh sc
   pub run_printed : {before between after : List ℕ} {end to : ℕ} → length script ≤ longest →
       Stored 0 (record_lines (x.used / record_length) log) before end between →
       Stored end (last_line (end_number x.end) (end_offset x.end) x.port.half) between to after →
-      printed to after ≡ in-front (printout script) before
+      printed to after ≡ in_front (printout script) before
   unfolding printout
   run_printed h s t = rw (le-ltb longest (length script) h, ← run) (at_front (both_stored (omega arith) s t))

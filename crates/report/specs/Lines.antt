@@ -2,7 +2,7 @@
 -- half count of the last state, or `refused N at P`"; of a record, "kind, answer and SSR in hex, level with `-` for not driven, interrupt".
 -- Digits above 9 are capitals. A record that no command leaves has its text too: a kind above 15, a level above 2 and an interrupt above 1 print `?`.
 -- Assumes nothing.
-use Rattle.std.specs.Prelude.{ℕ, ◌+◌, ◌/◌, ◌%◌, cond, List, [], ◌∷◌, ◌++◌, eqb}
+use Rattle.std.specs.Prelude.{ℕ, ◌/◌, ◌%◌, cond, List, [], ◌∷◌, ◌++◌, eqb}
 use Rattle.text.specs.Decimal.{decimal}
 use Rattle.text.specs.Text.{hex_digit}
 

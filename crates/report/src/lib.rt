@@ -3,7 +3,7 @@
 ghost use Rattle.std.specs.Prelude.{◌≡◌, ◌+◌, ◌≤◌, ◌*◌, length, drop};
 ghost use Rattle.store.specs.Store.{Stored};
 ghost use Rattle.player.specs.Play.{record_length, end_number, end_offset};
-ghost use Rattle.text.specs.Text.{printed, in-front};
+ghost use Rattle.text.specs.Text.{printed, in_front};
 ghost use Rattle.report.specs.Lines.{bit, level, record_line, end_line, refused_line};
 ghost use Rattle.report.specs.Printout.{first_line, record_lines, last_line, printout};
 
@@ -69,14 +69,14 @@ fn put_refused(buf: &mut [u8], at: usize, number: u8, offset: usize) -> usize
 
 // The last line of a script that was accepted, at the front of the buffer; answers its length.
 pub fn end_line(buf: &mut [u8; 64], halves: u32) -> usize
-    ensures { printed result buf.new ≡ in-front (end_line halves) buf.old }
+    ensures { printed result buf.new ≡ in_front (end_line halves) buf.old }
 {
     put_end(buf, 0, halves)
 }
 
 // The last line of a script that was refused, at the front of the buffer; answers its length.
 pub fn refused_line(buf: &mut [u8; 64], number: u8, offset: usize) -> usize
-    ensures { printed result buf.new ≡ in-front (refused_line number offset) buf.old }
+    ensures { printed result buf.new ≡ in_front (refused_line number offset) buf.old }
 {
     put_refused(buf, 0, number, offset)
 }
@@ -117,7 +117,7 @@ fn put_last(buf: &mut [u8], at: usize, end: End, halves: u32) -> usize
 
 // Plays a script on a fresh port with a log of 40,960 bytes, and writes all that is printed of it at the front of the buffer; answers its length.
 pub fn printout(buf: &mut [u8; 98368], script: &[u8]) -> usize
-    ensures { printed result buf.new ≡ in-front (printout script.now) buf.old }
+    ensures { printed result buf.new ≡ in_front (printout script.now) buf.old }
 {
     if LONGEST < script.len() {
         return text::put_text(buf, 0, b"too long\n");

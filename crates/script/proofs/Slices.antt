@@ -20,13 +20,13 @@ use Rattle.script.specs.RoundTrip.{largest, Bytes, Stands}
 use Rattle.script.proofs.Numbers.{numbers_are_encodings}
 use Rattle.script.proofs.Commands.{commands_are_encodings}
 
-pub slice-bytes : (s : List ℕ) → ((i : ℕ) → Fits w8 (get_or s i 0)) → Bytes s
-slice-bytes [] h = tt
-slice-bytes (b ∷ s) h = (omega (arith, h 0), slice-bytes s (λ i. h (suc i)))
+pub slice_bytes : (s : List ℕ) → ((i : ℕ) → Fits w8 (get_or s i 0)) → Bytes s
+slice_bytes [] h = tt
+slice_bytes (b ∷ s) h = (omega (arith, h 0), slice_bytes s (λ i. h (suc i)))
 
 module _ (s : List ℕ) (h : (i : ℕ) → Fits w8 (get_or s i 0)) (at next : ℕ) where
-  pub slice-number : (v : ℕ) → number_at s at ≡ Value v next → Stands (encode v) s at next × (v ≤ largest)
-  slice-number v e = numbers_are_encodings s at v next (slice-bytes s h) e
+  pub slice_number : (v : ℕ) → number_at s at ≡ Value v next → Stands (encode v) s at next × (v ≤ largest)
+  slice_number v e = numbers_are_encodings s at v next (slice_bytes s h) e
 
-  pub slice-command : (c : Command) → command_at s at ≡ Found c next → Stands (bytes c) s at next × InRange c
-  slice-command c e = commands_are_encodings s at next c (slice-bytes s h) e
+  pub slice_command : (c : Command) → command_at s at ≡ Found c next → Stands (bytes c) s at next × InRange c
+  slice_command c e = commands_are_encodings s at next c (slice_bytes s h) e

@@ -10,7 +10,7 @@ use borrow.Author.Tests.{lt-ltb, le-ltb}
 use Rattle.store.specs.Store.{Stored}
 use Rattle.branches.proofs.Branches.{either_way}
 use Rattle.text.specs.Decimal.{digit, digits}
-use Rattle.text.specs.Text.{Printed, printed, in-front}
+use Rattle.text.specs.Text.{Printed, printed, in_front}
 
 pub few : (k v : ℕ) → v < 10 → digits k v ≡ digit v ∷ []
 few zero v h = refl
@@ -39,11 +39,11 @@ digits_long (suc k) v =
     (λ t. rw (t, length-append) (omega (arith, digits_long k (v / 10))))
 
 -- a text stored at the front of the buffer is a text there
-pub at_front : {text buf after : List ℕ} {to : ℕ} → Stored 0 text buf to after → printed to after ≡ in-front text buf
+pub at_front : {text buf after : List ℕ} {to : ℕ} → Stored 0 text buf to after → printed to after ≡ in_front text buf
 at_front {text} s = let front : 0 + length text ≡ length text = omega arith in rw (s.end, s.buffer, front)
 
 -- a text lies within its buffer: what a caller of a function that makes one needs to lend it on
-pub text_within : (text buf after : List ℕ) (to : ℕ) → printed to after ≡ in-front text buf → to ≤ length after
+pub text_within : (text buf after : List ℕ) (to : ℕ) → printed to after ≡ in_front text buf → to ≤ length after
 text_within text buf after to e =
     let long : to ≡ length text = ap (λ (p : Printed). p.answer) e in
     let all : after ≡ text ++ drop (length text) buf = ap (λ (p : Printed). p.buffer) e in

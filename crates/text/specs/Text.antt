@@ -15,5 +15,5 @@ abbrev pub printed : ℕ → List ℕ → Printed
 printed n l = record { answer = n; buffer = l }
 
 -- a text at the front of a buffer; every byte after it stays as it was
-abbrev pub in-front : List ℕ → List ℕ → Printed
-in-front text buf = printed (length text) (text ++ drop (length text) buf)
+abbrev pub in_front : List ℕ → List ℕ → Printed
+in_front text buf = printed (length text) (text ++ drop (length text) buf)
