@@ -1,6 +1,7 @@
 // SCI3 for programs in other languages: a port's state in a lent array of numbers, the direct calls on it, and the player of scripts. Rattle crates call
 // these functions, and so does crate capi_c, the static library by which C calls them.
 #![tactic(auto)]
+
 ghost use Rattle.std.specs.Prelude.{◌≡◌, true, cond, ◌+◌, ◌≤◌, ◌++◌, eqb, length, take};
 ghost use Rattle.frame.specs.Frame.{one_if};
 ghost use Rattle.port.specs.Calls.{answer, direct};
@@ -743,12 +744,7 @@ fn put_state(s: &mut [u64], number: u8, port: Port)
 
 // Plays a script on the port in the array. The answer is document 01's number, 0 where the script was accepted; told are the offset of the refused
 // command's first byte, else 0, and how many bytes of the log are written.
-pub fn sci3_play(
-    state: &mut [u64],
-    script: &[u8],
-    log: &mut [u8],
-    told: &mut [u64; 2],
-) -> u64
+pub fn sci3_play(state: &mut [u64], script: &[u8], log: &mut [u8], told: &mut [u64; 2]) -> u64
     ensures { playing result told.new state.new log.new ≡ played state.old script.now log.old }
 {
     if is_state(state) {

@@ -1,0 +1,10 @@
+-- The index lies within the bytes, and each turn passes one.
+-- Assumes nothing.
+use Rattle.std.proofs.Common.{◌≤◌, ◌-◌, length}
+use Rattle.replay.proofs.with_bytes.Given as goal
+
+abbrev pub invariant-loop-i : goal.invariant-loop-i
+invariant-loop-i l = l.i ≤ length l.bytes
+
+abbrev pub decreases-loop-i : goal.decreases-loop-i
+decreases-loop-i l = length l.bytes - l.i
