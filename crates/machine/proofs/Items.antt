@@ -1,13 +1,13 @@
 -- The items of a script one by one, without the bound.
 -- Assumes nothing.
-use mathlib.Core.Path.{◌≡◌, refl, sym, ap, subst, ◌∙◌}
+use mathlib.Core.Path.{◌≡◌, refl, sym, ap, ◌∙◌}
 use mathlib.Core.Bool.{cond}
 use mathlib.Core.List.{List, [], ◌∷◌}
 use Prim.Native.Nat.{ℕ, zero, suc, ◌+◌, ◌-◌, ◌≤◌, ◌<◌}
 use native.Mathlib.Omega.{arith}
 use lib.Dec.{ltb}
 use borrow.Author.Tests.{lt-ltb, le-ltb}
-use Rattle.machine.specs.Machine.{Reading, found, faulty, Item, a_command, a_fault, item, items_up_to, items}
+use Rattle.machine.specs.Machine.{Reading, found, faulty, Item, a_command, item, items_up_to, items}
 
 abbrev pub Moves : {C : Type 0} → ℕ → Reading C → Type 0
 Moves at (found c next) = at < next

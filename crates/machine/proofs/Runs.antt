@@ -1,13 +1,12 @@
 -- A run is its commands: what it leaves is what its first commands leave, each in the state that the one before left (specs/Machine.antt).
 -- Assumes nothing.
 use mathlib.Core.Path.{◌≡◌, refl, sym, ap, subst, ◌∙◌}
-use mathlib.Core.Bool.{true}
 use mathlib.Core.List.{List, [], ◌∷◌, ◌++◌, append-nil, append_assoc}
-use Prim.Native.Nat.{ℕ, ◌+◌, ◌-◌, ◌<◌}
+use Prim.Native.Nat.{ℕ, ◌+◌, ◌-◌}
 use native.Mathlib.Omega.{arith}
 use lib.ListN.{length, drop, length-append}
 use lib.Seq.{drop-drop}
-use lib.Dec.{ltb, leb}
+use lib.Dec.{ltb}
 use borrow.Author.Tests.{le-leb, lt-leb}
 use Rattle.branches.proofs.Branches.{by_cond}
 use Rattle.machine.specs.Machine.{Item, a_command, a_fault, commands, Act, acts, refuses, Run, ended, answered, play_items, written, left, Acts, AllAct, last, records, played, IsItsCommands, Sound}

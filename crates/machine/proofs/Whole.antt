@@ -7,7 +7,7 @@ use native.Mathlib.Omega.{arith}
 use lib.ListN.{length, drop}
 use lib.Dec.{ltb}
 use Rattle.branches.proofs.Branches.{by_cond}
-use Rattle.machine.specs.Machine.{Reading, found, faulty, Item, a_command, a_fault, Act, acts, refuses, Run, ended, answered, play_items, Sound}
+use Rattle.machine.specs.Machine.{Item, a_command, a_fault, Act, acts, refuses, Run, ended, answered, play_items, Sound}
 
 abbrev pub ReadWhole : {C : Type 0} → List (Item C) → Type 0
 ReadWhole [] = Unit {0}

@@ -1,7 +1,7 @@
 -- Document 01, "A script comes in", for any commands and any state: how a script is read as items, and what playing the items leaves. The one-port
 -- player and the card are two cases of it; each says how its commands are read, how much of the log they need, and what they do.
 -- Assumes nothing.
-use Rattle.std.specs.Prelude.{ℕ, zero, suc, ◌+◌, ◌-◌, ◌≤◌, ◌<◌, ◌≡◌, cond, List, [], ◌∷◌, ◌++◌, length, drop, ltb, leb}
+use Rattle.std.specs.Prelude.{ℕ, zero, suc, ◌+◌, ◌-◌, ◌<◌, ◌≡◌, cond, List, [], ◌∷◌, ◌++◌, length, drop, ltb, leb}
 
 -- ---- a script as items
 

@@ -1,5 +1,6 @@
 // What is seen of the port from outside: the pins that it drives or uses, and its interrupt request (`pins` and `interrupt` of sci.rs). Nothing here changes a port.
 #![tactic(auto)]
+
 ghost use Rattle.std.specs.Prelude.{◌≡◌};
 ghost use Rattle.pins.specs.Pins.{transmit_level, clock_level, clock_drive, pins, interrupt, level_number};
 

@@ -3,7 +3,7 @@
 use mathlib.Core.Path.{◌≡◌, refl, sym, ap, subst, ◌∙◌}
 use mathlib.Core.Bool.{Bool, true, false}
 use mathlib.Core.List.{List, [], ◌∷◌, ◌++◌}
-use Prim.Native.Nat.{ℕ, ◌+◌, ◌-◌, ◌≤◌, ◌<◌}
+use Prim.Native.Nat.{ℕ, ◌-◌, ◌≤◌, ◌<◌}
 use native.Mathlib.Omega.{arith}
 use lib.ListN.{length, get_or, set, take, drop}
 use lib.Seq.{sets-eq}
@@ -22,7 +22,7 @@ use Rattle.port.specs.declared.Outcome.TheVariants.{Done, Refused as Refusing}
 use Rattle.port.specs.Calls.{Answer, done, refused, called, direct, number, answer}
 use Rattle.port.specs.Valid.{valid}
 use Rattle.pins.specs.Pins.{pins, level_number, interrupt}
-use Rattle.port_laws.specs.Laws.{AcceptedPasses, OneOf, RefusedStands}
+use Rattle.port_laws.specs.Laws.{AcceptedPasses}
 use Rattle.port_laws.proofs.Laws.{accepted_passes, refused_not_0}
 use Rattle.script.specs.declared.Fault.{Fault}
 use Rattle.script.specs.declared.Decoded.{Decoded}
@@ -38,7 +38,7 @@ use Rattle.player.specs.declared.Reason.{Reason}
 use Rattle.player.specs.declared.Stepped.{Stepped}
 use Rattle.player.specs.declared.Stepped.TheVariants.{Onward, Stopped}
 use Rattle.player.specs.declared.End.TheVariants.{Accepted, Refused}
-use Rattle.player.specs.Play.{record_length, record_of, room, items, act_of, act, play, reason_number, ran}
+use Rattle.player.specs.Play.{record_length, record_of, room, act_of, act, play, ran}
 use Rattle.player.specs.Private.Step.{stepped, port_step, play_on}
 
 -- ---- one command

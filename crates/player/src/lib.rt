@@ -1,5 +1,6 @@
 // Plays a script on a port and leaves a record of each command in a lent log (document 01, "A script comes in").
 #![tactic(auto)]
+
 ghost use Rattle.std.specs.Prelude.{◌≡◌, true, ◌++◌, ◌≤◌, length, drop};
 ghost use Rattle.frame.specs.Frame.{one_if};
 ghost use Rattle.port.specs.Calls.{called, answer};

@@ -15,7 +15,7 @@ use Rattle.port.specs.Input.{receive_input, external_edge, input_pins}
 use Rattle.shift.specs.Valid.{character_valid, word_in_place}
 use Rattle.port.specs.Valid.{registers_valid, valid}
 use Rattle.command.specs.declared.Command.{Command}
-use Rattle.command.specs.declared.Command.TheVariants.{Read, Write, Wait, Line, Pins, Power, Inside}
+use Rattle.command.specs.declared.Command.TheVariants.{Write, Wait, Line, Power}
 use Rattle.port.specs.Calls.{Answer, called, direct, run}
 
 -- ---- how they are computed

@@ -1,24 +1,23 @@
 -- The half count after a call, by the facts that every call keeps (KeepValid.antt): the claims of specs/Edges.antt, and what a player counts by.
 -- Assumes nothing.
-use mathlib.Core.Path.{◌≡◌, refl, sym, ap, subst, ◌∙◌}
-use mathlib.Core.Logic.{◌⊎◌, ⊎_elim}
-use mathlib.Core.Bool.{Bool, true, false, cond, not, ◌&&◌, ◌||◌, false≢true}
-use Prim.Native.Nat.{ℕ, zero, suc, ◌+◌, ◌-◌}
+use mathlib.Core.Path.{◌≡◌, refl, ap, subst, ◌∙◌}
+use mathlib.Core.Logic.{⊎_elim}
+use mathlib.Core.Bool.{Bool, cond, ◌&&◌, false≢true}
+use Prim.Native.Nat.{ℕ, ◌+◌, ◌-◌}
 use native.Mathlib.Omega.{arith}
 use lib.Dec.{eqb, leb}
 use Rattle.branches.proofs.Branches.{by_cond, both_arms, either_way}
-use Rattle.frame.specs.Frame.{has, one_if}
+use Rattle.frame.specs.Frame.{has}
 use Rattle.command.specs.declared.Command.{Command}
 use Rattle.command.specs.declared.Command.TheVariants.{Read, Write, Wait, Line, Pins, Power, Inside}
 use Rattle.port.specs.declared.Port.{Port}
 use Rattle.port.specs.Baud.{internal, edge_counts}
-use Rattle.port.specs.Half.{halves, uncounted, inside}
+use Rattle.port.specs.Half.{uncounted, inside}
 use Rattle.port.specs.Registers.{handles, read, write}
-use Rattle.port.specs.Power.{reset, reset_registers, set_power, with_power}
-use Rattle.port.specs.Input.{receive_input, pins_change, external_edge, input_pins}
+use Rattle.port.specs.Input.{receive_input, pins_change}
 use Rattle.port.specs.Valid.{limit, valid}
 use Rattle.port.proofs.CallLaws.{internal_external}
-use Rattle.port.specs.Calls.{Answer, done, refused, refuse, bit, called, direct}
+use Rattle.port.specs.Calls.{Answer, done, refused, bit, called, direct}
 use Rattle.port_laws.specs.Edges.{edges, resets, EdgesMoveHalfCount, ResetsCountNone}
 use Rattle.port_laws.proofs.KeepHalf.{Kept, kept_halves}
 use Rattle.port_laws.proofs.KeepCalls.{read_kept, write_kept, uncounted_kept, line_kept, inside_kept, pins_kept, power_kept}

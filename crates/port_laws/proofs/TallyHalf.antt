@@ -10,7 +10,6 @@ use Rattle.shift.specs.declared.Due.TheVariants.{Never}
 use Rattle.port.specs.Baud.{external, counted, edge_counted}
 use Rattle.shift.specs.Due.{due_now}
 use Rattle.port.specs.Receiver.{error_free}
-use Rattle.shift.specs.Sender.{level}
 use Rattle.port.specs.Clocked.{with_clock, refresh_sync_clock, sync_edge}
 use Rattle.port.specs.Half.{process_basic, clocked_edge, advance, half_step}
 use Rattle.port_laws.specs.Laws.{tally, finishes, receives, rises}

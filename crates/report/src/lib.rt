@@ -1,5 +1,6 @@
 // The text that the program prints: a line for each record, the last line, and all of it for a script (document 01, "A script comes in").
 #![tactic(auto)]
+
 ghost use Rattle.std.specs.Prelude.{◌≡◌, ◌+◌, ◌≤◌, ◌*◌, length, drop};
 ghost use Rattle.store.specs.Store.{Stored};
 ghost use Rattle.player.specs.Play.{record_length, end_number, end_offset};

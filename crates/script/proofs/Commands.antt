@@ -22,7 +22,7 @@ use Rattle.script.specs.declared.Decoded.TheVariants.{Command as Found, Refused 
 use Rattle.script.specs.Number.{number_at}
 use Rattle.script.specs.Encode.{encode}
 use Rattle.command.specs.Command.{Row, kinds, look_up, operands_of, command_of, kind, operands, InRange}
-use Rattle.script.specs.Command.{limited, operand_at, and_then, with_operands, command_at}
+use Rattle.script.specs.Command.{limited, operand_at, and_then, with_operands}
 use Rattle.script.specs.Write.{encode_all, bytes}
 use Rattle.script.specs.RoundTrip.{largest, Bytes, Stands, OperandsReadBack, Encodes, OperandsAreEncodings, CommandsReadBack, CommandsAreEncodings}
 use mathlib.Mathlib.Data.Bool.Basic.{and_intro, and_elim_left, and_elim_right}

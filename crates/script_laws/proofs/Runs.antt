@@ -1,6 +1,6 @@
 -- The laws of runs (specs/Runs.antt): those of every machine (machine's Runs.antt and Whole.antt), for the one-port player.
 -- Assumes nothing.
-use mathlib.Core.Path.{◌≡◌, refl, sym, ap, subst, ◌∙◌}
+use mathlib.Core.Path.{◌≡◌, refl, ap, subst, ◌∙◌}
 use mathlib.Core.Bool.{true}
 use mathlib.Core.List.{List, [], ◌∷◌}
 use Prim.Native.Nat.{ℕ, zero, suc, ◌-◌}
@@ -22,7 +22,7 @@ use Rattle.script.specs.declared.Decoded.TheVariants.{Command as Found, Refused 
 use Rattle.script.specs.Number.{fault_number}
 use Rattle.script.specs.Command.{command_at}
 use Rattle.script.specs.Items.{reading, read_at}
-use Rattle.machine.specs.Machine.{Item, item, items_up_to, commands, Act, acts, refuses, Acts, AllAct, left, last, Run, play_items, IsItsCommands}
+use Rattle.machine.specs.Machine.{Item, item, items_up_to, commands, acts, refuses, Acts, AllAct, left, last, Run, IsItsCommands}
 use Rattle.machine.proofs.Runs.{runs_are_commands, none_are_commands}
 use Rattle.machine.proofs.Whole.{NoFault, never}
 use Rattle.player.specs.Play.{record_length, room, items, act_of, act, play}

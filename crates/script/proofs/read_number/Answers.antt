@@ -1,5 +1,5 @@
-use Rattle.std.proofs.Common.{ℕ, ◌+◌, ◌*◌, ◌<◌, get_or, arith}
-use Rattle.script.proofs.Laws.{Group, last_fits, read_group, read_on}
+use Rattle.std.proofs.Common.{arith}
+use Rattle.script.proofs.Laws.{last_fits, read_group, read_on}
 use Rattle.script.proofs.read_number.Goals as goal
 
 pub overflow_mul-result : goal.overflow_mul-result
