@@ -20,7 +20,7 @@ use Rattle.port.proofs.CallLaws.{internal_external}
 use Rattle.port.specs.Calls.{Answer, done, refused, bit, called, direct}
 use Rattle.port_laws.specs.Edges.{edges, resets, EdgesMoveHalfCount, ResetsCountNone}
 use Rattle.port_laws.proofs.KeepHalf.{Kept, kept_halves}
-use Rattle.port_laws.proofs.KeepCalls.{read_kept, write_kept, uncounted_kept, line_kept, inside_kept, pins_kept, power_kept}
+use Rattle.port_laws.proofs.KeepCalls.{read_kept, write_kept, uncounted_kept, line_kept, inside_kept, pins_counted, power_reset}
 use Rattle.port_laws.proofs.KeepValid.{valid_sound}
 
 -- the half count that an accepted call leaves
@@ -53,10 +53,10 @@ module _ (p : Port) (k : Kept p.half p) where
   called_moves (Pins clock line) =
       both_arms (Moves (Pins clock line) p) (leb clock 1 && leb line 1) _ _
       (both_arms (Moves (Pins clock line) p) (pins_change (bit clock) (bit line) p && (edge_counts (bit clock) p && leb limit p.half)) _ _ tt
-      (⊎_elim (λ m. rw m.1 (stands _ m.0)) (λ m. rw m.1 (omega (arith, m.0.ok.sends.at))) (pins_kept (bit clock) (bit line) p.half p k))) tt
+      (⊎_elim (λ m. rw m.1 (stands _ m.0)) (λ m. rw m.1 (omega (arith, m.0.ok.sends.at))) (pins_counted (bit clock) (bit line) p.half p k))) tt
   called_moves (Power b) =
       both_arms (Moves (Power b) p) (leb b 15) _ _
-      (⊎_elim (λ m. rw m.1 (stands _ m.0)) (λ m. rw m.1 m.0.ok.sends.at) (power_kept (has b 1) (has b 2) (has b 4) (has b 8) p.half p k)) tt
+      (⊎_elim (λ m. rw m.1 (stands _ m.0)) (λ m. rw m.1 m.0.ok.sends.at) (power_reset (has b 1) (has b 2) (has b 4) (has b 8) p.half p k)) tt
   called_moves Inside = stands (inside p) (inside_kept p.half p k)
 
 direct_moves : (c : Command) (p : Port) → Moves c p (direct c p)

@@ -235,12 +235,12 @@ pins_set_kept clock line h p k =
     let m : Kept h (receive_input line p) = line_kept h p k line in
     kept_of h (with_input_clock (receive_input line p) clock) m.ok.sends m.ok.side m.due
 
--- no edge counted, or one
-pub pins_kept : (clock line : Bool) (h : ℕ) (p : Port) → Kept h p
+-- no edge counted, or one, and which
+pub pins_counted : (clock line : Bool) (h : ℕ) (p : Port) → Kept h p
     → (Kept h (input_pins clock line p) × ((pins_change clock line p && edge_counts clock p) ≡ false))
     ⊎ (Kept (suc h) (input_pins clock line p) × ((pins_change clock line p && edge_counts clock p) ≡ true))
 unfolding input_pins external_edge
-pins_kept clock line h p k =
+pins_counted clock line h p k =
     by_cond Case (pins_change clock line p) _ p
     (λ e. by_cond Case (edge_counts clock q) _ q
     (λ g. inr (edge_kept clock h q kq (and_left (external q) _ (and_right (running q) _ g)), and_both (pins_change clock line p) (edge_counts clock p) e (sym (edge_counts_kept clock line p) ∙ g)))
@@ -256,6 +256,11 @@ pins_kept clock line h p k =
     kq : Kept h q
     kq = pins_set_kept clock line h p k
 
+-- no edge counted, or one
+pub pins_kept : (clock line : Bool) (h : ℕ) (p : Port) → Kept h p
+    → Kept h (input_pins clock line p) ⊎ (Kept (suc h) (input_pins clock line p) × ((pins_change clock line p && edge_counts clock p) ≡ true))
+pins_kept clock line h p k = ⊎_elim (λ m. inl m.0) (λ m. inr m) (pins_counted clock line h p k)
+
 -- ---- power
 reset_kept : (x : ℕ) (p : Port) → bit_or (bit_and x 0x13) 0xc0 ≡ x → Kept 0 (reset_registers x p)
 unfolding reset_registers fresh
@@ -269,14 +274,14 @@ fresh_kept =
     kept_of 0 fresh (record { at = refl; fits = tt })
     (record { at = refl; fits = tt; began = zero-le; flags = refl; seen_flags = refl; stored = record { spcr_bits = refl; scr_bits = refl; semr_bits = refl; ircr_bits = refl } }) tt
 
--- the half count stands, or a reset makes it 0
+-- the half count stands, or becomes 0, and which: at a reset
 abbrev pub Reset : Bool → Bool → Port → Bool → Type 0
 Reset module_on reset_on p t = ((not module_on && p.«module») || (reset_on && not p.reset_mode)) ≡ t
 
-pub power_kept : (a b c d : Bool) (h : ℕ) (p : Port) → Kept h p
+pub power_reset : (a b c d : Bool) (h : ℕ) (p : Port) → Kept h p
     → (Kept h (set_power a b c d p) × Reset a d p false) ⊎ (Kept 0 (set_power a b c d p) × Reset a d p true)
 unfolding set_power reset
-power_kept a b c d h p k =
+power_reset a b c d h p k =
     by_cond Case (not a && p.«module») (reset_registers 0xc0 p) _ (λ e. inr (powered 0 (reset_registers 0xc0 p) (reset_kept 0xc0 p refl), ap (λ (t : Bool). t || (d && not p.reset_mode)) e))
     (λ e. by_cond Case (d && not p.reset_mode) (reset_registers p.spcr p) p
     (λ g. inr (powered 0 (reset_registers p.spcr p) (reset_kept p.spcr p k.ok.side.stored.spcr_bits), ap (λ (t : Bool). t || (d && not p.reset_mode)) e ∙ g))
@@ -287,3 +292,7 @@ power_kept a b c d h p k =
 
     Case : Port → Type 0
     Case w = (Kept h (refresh_sync_clock (with_power w a b c d)) × Reset a d p false) ⊎ (Kept 0 (refresh_sync_clock (with_power w a b c d)) × Reset a d p true)
+
+-- the half count stands or becomes 0
+pub power_kept : (a b c d : Bool) (h : ℕ) (p : Port) → Kept h p → Kept h (set_power a b c d p) ⊎ Kept 0 (set_power a b c d p)
+power_kept a b c d h p k = ⊎_elim (λ m. inl m.0) (λ m. inr m.0) (power_reset a b c d h p k)

@@ -260,10 +260,10 @@ call_sound (Pins clock line) p g =
     room true false z e f = absurd (false≢true e)
     room false y z e f = absurd (false≢true e)
 
-    set : (Kept p.half q × ((changes && counts) ≡ false)) ⊎ (Kept (suc p.half) q × ((changes && counts) ≡ true)) → (changes && (counts && leb limit p.half)) ≡ false → Sound q
-    set (inl k) f = sound_at p.half q g.low k.0
+    set : Kept p.half q ⊎ (Kept (suc p.half) q × ((changes && counts) ≡ true)) → (changes && (counts && leb limit p.half)) ≡ false → Sound q
+    set (inl k) f = sound_at p.half q g.low k
     set (inr k) f = sound_at (suc p.half) q (leb-false limit p.half (room changes counts (leb limit p.half) k.1 f)) k.0
 call_sound (Power b) p g =
     both_arms SoundAfter (leb b 15) _ _
-    (⊎_elim (λ k. sound_at p.half _ g.low k.0) (λ k. sound_at 0 _ zero-le k.0) (power_kept (has b 1) (has b 2) (has b 4) (has b 8) p.half p g.kept)) g
+    (⊎_elim (λ k. sound_at p.half _ g.low k) (λ k. sound_at 0 _ zero-le k) (power_kept (has b 1) (has b 2) (has b 4) (has b 8) p.half p g.kept)) g
 call_sound Inside p g = sound_at p.half (inside p) g.low (inside_kept p.half p g.kept)
