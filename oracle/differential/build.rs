@@ -26,7 +26,7 @@ pub fn main() {
     println!("cargo::rerun-if-changed={}", archive.display());
     if !archive.is_file() {
         println!(
-            "cargo::error=the archive of the port {} is missing; `rt staticlib capi` writes it, and {VARIABLE} names another",
+            "cargo::error=the archive of the port {} is missing; `tools/archive` writes it, and {VARIABLE} names another",
             archive.display()
         );
         return;

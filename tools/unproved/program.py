@@ -1,8 +1,8 @@
 """Builds answers.rattle over edited crates with no proof, and asks it.
 
-`rt try` compiles a program unproved, links it and runs it on nothing; a copy of the kit whose compiler and linker are stand-ins keeps what it makes. The
-program that is kept is the last, in which what the compiler may assume is checked, so that a wrong program breaks off rather than answers by chance."""
-import os, pathlib, shutil, struct, subprocess
+`rt try` compiles a program unproved, links it and runs it on nothing; a copy of the kit with a stand-in for its linker keeps what it makes. In that program
+what the compiler may assume is checked, so that a wrong program breaks off rather than answers by chance."""
+import pathlib, shutil, struct, subprocess
 
 HERE = pathlib.Path(__file__).resolve().parent
 ROOT = HERE.parent.parent
@@ -10,43 +10,30 @@ NAME = "answers"
 SECONDS = 20
 BREAKS = 8
 
-# One compilation without optimization does for all but the last program.
-CLANG = """#!/bin/sh
-case $* in
-*" -O3 "*) exec cp {kept}/module.o module.o ;;
-esac
-{real}/clang "$@" && cp module.o {kept}/module.o
-"""
 LINKER = """#!/bin/sh
-{real}/ld.lld "$@" || exit
+{real} "$@" || exit
 while [ $# -gt 1 ]; do
     [ "$1" = -o ] && cp "$2" {kept}/program
     shift
 done
 exit 0
 """
-OTHER = """#!/bin/sh
-exec {real}/{name} "$@"
-"""
 
 
 def kit(folder):
-    """A copy of the kit: links, but for the folders on the way to its compiler and linker, in whose place the stand-ins are."""
-    real = pathlib.Path(os.environ.get("RATTLE_HOME") or pathlib.Path(shutil.which("rt")).resolve().parent.parent)
+    """A copy of the kit: links, but for rt, which finds the kit by its own place, and for the linker, in whose place the stand-in is."""
+    real = pathlib.Path(shutil.which("rt")).resolve().parent.parent
     home, kept = folder / "kit", folder / "kept"
     kept.mkdir(parents=True)
-    tools = pathlib.Path("on", os.uname().machine, "toolchain", "bin")
-    for part in reversed(tools.parents):
+    own = {pathlib.Path("bin/rt"), pathlib.Path("bin/rtlib.py"), pathlib.Path("toolchain/bin/ld.lld")}
+    for part in (pathlib.Path(), pathlib.Path("bin"), pathlib.Path("toolchain"), pathlib.Path("toolchain/bin")):
         (home / part).mkdir()
         for there in (real / part).iterdir():
-            if not tools.is_relative_to(part / there.name):
+            if not any(path.is_relative_to(part / there.name) for path in own):
                 (home / part / there.name).symlink_to(there)
-    (home / tools).mkdir()
-    for there in (real / tools).iterdir():
-        text = {"clang": CLANG, "ld.lld": LINKER}.get(there.name, OTHER)
-        here = home / tools / there.name
-        here.write_text(text.format(real=real / tools, kept=kept, name=there.name))
-        here.chmod(0o755)
+    for path in own:
+        shutil.copy(real / path, home / path) if path.parts[0] == "bin" else (home / path).write_text(LINKER.format(real=real / path, kept=kept))
+        (home / path).chmod(0o755)
     return home
 
 
@@ -55,30 +42,33 @@ class Workshop:
 
     def __init__(self, folder):
         self.folder, self.kit, self.built = folder, kit(folder), 0
-        for source in ROOT.glob("crates/*/src"):
-            shutil.copytree(source, folder / source.relative_to(ROOT))
+        for part in ("src", "specs"):
+            for source in ROOT.glob(f"crates/*/{part}"):
+                shutil.copytree(source, folder / source.relative_to(ROOT))
         (folder / "crates" / NAME / "src").mkdir(parents=True)
         shutil.copy(HERE / "answers.rattle", folder / "crates" / NAME / "src" / "main.rt")
-        crates = [line.split(":")[0] for line in (ROOT / "crates.txt").read_text().splitlines() if ":" in line and not line.startswith("#")]
-        libraries = [c for c in crates if (ROOT / "crates" / c / "src" / "lib.rt").is_file()]
-        (folder / "crates.txt").write_text((ROOT / "crates.txt").read_text() + f"{NAME}: {' '.join(libraries)} bytes io libc\n")
+        listed = [line.split("#")[0].split(":")[0].split() for line in (ROOT / "crates.txt").read_text().splitlines()]
+        # A static library exports to C, and no crate names it.
+        libraries = [c[0] for c in listed if len(c) == 1 and (ROOT / "crates" / c[0] / "src" / "lib.rt").is_file()]
+        (folder / "crates.txt").write_text((ROOT / "crates.txt").read_text() + f"{NAME}: {' '.join(libraries)}\n")
 
     def build(self, changed):
         """The program over crates in which these files have these texts, or None and why they do not compile."""
-        before = {}
+        before, made = {}, self.folder / "kept" / "program"
+        made.unlink(missing_ok=True)
         try:
             for name, text in changed.items():
                 before[name] = (self.folder / name).read_text()
                 (self.folder / name).write_text(text)
-            environment = dict(os.environ, RATTLE_HOME=str(self.kit))
-            run = subprocess.run(["rt", "try", NAME], cwd=self.folder, env=environment, stdin=subprocess.DEVNULL, capture_output=True, text=True)
+            words = [self.kit / "bin" / "rt", "try", "--steps", "1"]
+            run = subprocess.run(words, cwd=self.folder / "crates" / NAME, stdin=subprocess.DEVNULL, capture_output=True, text=True)
         finally:
             for name, text in before.items():
                 (self.folder / name).write_text(text)
-        if run.returncode:
+        if not made.is_file():
             return None, run.stdout + run.stderr
         self.built += 1
-        return (self.folder / "kept" / "program").rename(self.folder / f"program{self.built}"), ""
+        return made.rename(self.folder / f"program{self.built}"), ""
 
 
 def ask(program, questions):
