@@ -78,7 +78,7 @@ ArraysAreCalls =
     (first : List ℕ) (es : List Exported) → length first ≡ length port_max
     → array_after (fresh_state first).state es ≡ encode (run fresh (all_calls (actions es)))
 
--- ---- what is call-left
+-- ---- what is call_left
 -- by each export on an array s that holds the port p: what a direct call on p, a run on p, the pins of p and its interrupt request are; never 8
 pub record Answers (s : List ℕ) (p : Port) : Type 0 where
   pub of_call : (kind a b : ℕ) → call kind a b s ≡ cond (leb 1 kind && leb kind 7) (call_left s (direct (command_of kind a b) p)) (lent (refusal 7) s)

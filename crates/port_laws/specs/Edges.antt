@@ -1,4 +1,4 @@
--- How many edges of the clock a direct call counts (document 02, One), and that the half count moves by them, where no reset takes it back to 0.
+-- How many edges of the clock a direct call counts, and that the half count moves by them, where no reset takes it back to 0.
 -- Proved in proofs/Edges.antt.
 -- Assumes nothing.
 use Rattle.std.specs.Prelude.{◌≡◌, ℕ, ◌+◌, Bool, true, false, cond, not, ◌&&◌, ◌||◌, List, [], ◌∷◌}

@@ -35,7 +35,7 @@ pub record NthWord (items : List LineItem) (n : ℕ) : Type 0 where
   pub split : items ≡ earlier ++ (word_of value ∷ later)
   pub place : words_in earlier ≡ n
 
--- its first stop cell is the halves cell-begins + 1 to cell-ends
+-- its first stop cell is the halves cell_begins + 1 to cell_ends
 abbrev pub cell_begins : Format → List LineItem → ℕ
 cell_begins f earlier = span_of f earlier + stop f * f.half_bit
 

@@ -3,8 +3,8 @@
 --
 --     halves               1-32     33-64    ..   257-288   289-320
 --     cell                 start    data 0   ..   data 7    first stop    (sampled at half 304 or 305, by the phase: the completion)
---     stop-cells-begun     0        0        ..   0         1
---     stop-cells-passed    0        0        ..   0         0, and 1 when half 320 has passed
+--     stop_cells_begun     0        0        ..   0         1
+--     stop_cells_passed    0        0        ..   0         0, and 1 when half 320 has passed
 --
 -- Of frame: `bits n x` are the low n bits of x, low bit first; `word f v` is the frame's word of a value; `stop f` is the number of cells before the first
 -- stop cell (start, data, parity), `cells f` that of all cells; f's `half_bit` is the cell length in halves, its `data` the number of data bits; `one_if b` is 1
