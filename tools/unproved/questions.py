@@ -5,7 +5,7 @@
                                                 is no command
     printout 06 03                              what the program prints for the script
     sci3_fresh length=54                        an array of 54 numbers
-    Due::within due=1 next=5 half=5 left=3      a function of a crate; arguments that are 0 are left out
+    within due=1 next=5 half=5 left=3           a function of a crate; arguments that are 0 are left out
 
 Numbers of a script are hexadecimal bytes, `07*300` is a byte 300 times; all other numbers are decimal. An enum is its number and its values, as in the
 exported array (crates/capi/specs/State.antt)."""
@@ -15,7 +15,6 @@ FORMAT = ("synchronous", "data", "parity", "odd", "stops", "half_bit")
 DUE = ("due", "next")
 TX = ("tag", *FORMAT, "word", "cell", *DUE, "loaded")
 RX = (*FORMAT, "value", "position", "parity_so_far", "error", *DUE)
-RECEIVER = ("tag", *RX)
 
 
 def under(name, parts):
@@ -25,7 +24,7 @@ def under(name, parts):
 # The exported array, the greatest number of each place, and a fresh port's.
 PLACES = (
     "spcr smr brr scr tdr ssr rdr semr ircr seen module main sub reset_mode half high edge".split()
-    + [*under("holding", ("tag", "byte")), *under("tx", TX), *under("rx", RECEIVER)]
+    + [*under("holding", ("tag", "byte")), *under("tx", TX), *under("rx", ("tag", *RX))]
     + ["uart", "bit_start", "input", "input_clock", "sck", *under("sync_next", DUE), "transmitted", "received"]
 )
 B, W = 255, 2**32 - 1
@@ -44,9 +43,9 @@ FUNCTIONS = {
     "hex_digit": (8, ("n",), ("digit",)),
     "read_number": (9, ("at",), READ),
     "read_operand": (10, ("at", "max"), READ),
-    "operands_of": (11, ("kind",), ("operands", "first", "second")),
+    "Kind::operands": (11, ("kind",), ("operands", "first", "second")),
     "read_command": (12, ("at",), ("fault", "kind", "a", "b", "next")),
-    "Fault::number": (13, ("fault",), ("number",)),
+    "u8::from(Fault)": (13, ("fault",), ("number",)),
     "Command::kind": (14, ("kind", "a", "b"), ("number",)),
     "write_number": (15, ("length", "at", "value"), ("full", "end")),
     "write_command": (16, ("length", "at", "kind", "a", "b"), ("full", "end")),
@@ -57,26 +56,22 @@ FUNCTIONS = {
     "Format::valid": (21, FORMAT, ("valid",)),
     "Format::word": (22, (*FORMAT, "value"), ("word",)),
     "Format::holds": (23, (*FORMAT, "word"), ("holds",)),
-    "Due::absent": (24, DUE, ("absent",)),
-    "Due::or_at": (25, (*DUE, "half"), DUE),
-    "Due::within": (26, (*DUE, "half", "left"), ("halves",)),
-    "Due::valid": (27, (*DUE, "half"), ("valid",)),
-    "Holding::full": (28, ("tag", "byte"), ("full",)),
-    "Tx::next": (29, TX, DUE),
-    "Tx::synchronous": (30, TX, ("clocked",)),
-    "Tx::valid": (31, (*TX, "half"), ("valid",)),
-    "Rx::falling": (32, RX, ("falling",)),
-    "Rx::starting": (33, RX, ("starting",)),
-    "Rx::last_bit": (34, RX, ("last",)),
-    "Rx::armed": (35, (*FORMAT, "half"), RX),
-    "Rx::clocked": (36, FORMAT, RX),
-    "Rx::parity_error": (37, (*RX, "high"), ("error",)),
-    "Rx::stopped": (38, (*RX, "high"), RX),
-    "Receiver::synchronous": (39, RECEIVER, ("clocked",)),
-    "Receiver::next": (40, RECEIVER, DUE),
-    "Receiver::valid": (41, (*RECEIVER, "half"), ("valid",)),
-    "Refusal::number": (42, ("refusal",), ("number",)),
-    "level_number": (43, ("driven", "high"), ("level",)),
+    "within": (24, (*DUE, "half", "left"), ("halves",)),
+    "due_valid": (25, (*DUE, "half"), ("valid",)),
+    "Tx::next": (26, TX, DUE),
+    "Tx::synchronous": (27, TX, ("clocked",)),
+    "Tx::valid": (28, (*TX, "half"), ("valid",)),
+    "Rx::falling": (29, RX, ("falling",)),
+    "Rx::starting": (30, RX, ("starting",)),
+    "Rx::last_bit": (31, RX, ("last",)),
+    "Rx::armed": (32, (*FORMAT, "half"), RX),
+    "Rx::clocked": (33, FORMAT, RX),
+    "Rx::parity_error": (34, (*RX, "high"), ("error",)),
+    "Rx::stopped": (35, (*RX, "high"), RX),
+    "Rx::valid": (36, (*RX, "half"), ("valid",)),
+    "u8::from(Refusal)": (37, ("refusal",), ("number",)),
+    "level_number": (38, ("driven", "high"), ("level",)),
+    "read_full": (39, ("length", "piece"), ("bytes",)),
 }
 OPERANDS = {1: 1, 2: 2, 3: 1, 4: 1, 5: 2, 6: 1}
 LOG = 240
@@ -211,15 +206,12 @@ def record(five):
 def answered(question, answer):
     """What an answer says, as names and values, what a reader looks at first before the rest."""
     if question.form == "printout":
-        text = answer[8:].decode("latin1")
-        lines = text.splitlines()
-        return [*((f"line {i + 1}", line) for i, line in enumerate(lines)), ("its text", text), ("the rest of the buffer", answer[:8].hex())]
+        text = answer.decode("latin1")
+        return [*((f"line {i + 1}", line) for i, line in enumerate(text.splitlines())), ("its text", text)]
     if question.form in FUNCTIONS:
         names = FUNCTIONS[question.form][2]
         if names == "text":
-            at = 0 if question.form == "record_line" else 8
-            length, text = int.from_bytes(answer[:at], "little"), answer[at:].rstrip(b"\0").decode("latin1")
-            return [("its text", text), ("its length", length), ("the buffer", answer.hex())]
+            return [("its text", answer.decode("latin1"))]
         numbers = struct.unpack_from(f"<{min(len(names), len(answer) // 8)}Q", answer)
         return [*zip(names, numbers), ("the buffer", answer[8 * len(numbers):].hex())]
     if question.form == "script":

@@ -1,5 +1,6 @@
 -- The claims of specs/Arrays.antt: what one exported call makes of an array that holds a port, and then lists of them.
 -- Assumes nothing.
+use Rattle.std.specs.Prelude.{Some}
 use mathlib.Core.Path.{◌≡◌, refl, sym, ap, subst, ◌∙◌}
 use mathlib.Core.Logic.{◌⊎◌, inl, inr}
 use Prim.Native.Nat.{ℕ}
@@ -25,7 +26,7 @@ use Rattle.port_laws.proofs.Ranges.{answers_a_byte}
 use Rattle.recovery.specs.Layers.{CarriesOver, state_after}
 use Rattle.script_laws.specs.Runs.{Action, makes_call, plays_script, leaves, commands_played, port_after}
 use Rattle.script_laws.proofs.Runs.{runs_are_calls, eight_at_entry_only, actions_are_calls, scripts_recover}
-use Rattle.capi.specs.State.{a_port, encode, port_max}
+use Rattle.capi.specs.State.{encode, port_max}
 use Rattle.capi.specs.Exports.{Lent, lent, refusal, call_left, call_on, call, pins_on, pins_answer, interrupt_on, interrupt_answer, fresh_state, Playing, playing, run_left, play_on, played}
 use Rattle.capi.specs.Round.{PortTyped}
 use Rattle.capi.proofs.Answers.{late_test}
@@ -157,7 +158,7 @@ unfolding DecodedTyped
 left_held s p e d = go (array_left e s) (state_after leaves p (action_of e)) (actions_typed (action_of e) p (decoded_typed s p d)) (left s p d e)
   where
     go : (t : List ℕ) (q : Port) → PortTyped q → Left s p t q → Holds t q
-    go t q ty (inl k) = subst (λ (x : List ℕ). Holds x q) (sym k.0) (d ∙ ap a_port (sym k.1))
+    go t q ty (inl k) = subst (λ (x : List ℕ). Holds x q) (sym k.0) (d ∙ ap Some (sym k.1))
     go t q ty (inr k) = subst (λ (x : List ℕ). Holds x q) (sym k) (round_trip q ty)
 
 pub arrays_hold_ports : ArraysHoldPorts

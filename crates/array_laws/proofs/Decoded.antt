@@ -1,5 +1,6 @@
 -- A port that an array holds is typed: each number of it stands at a place whose greatest it does not pass.
 -- Assumes nothing.
+use Rattle.std.specs.Prelude.{Option, None, Some}
 use mathlib.Core.Path.{◌≡◌, refl, subst}
 use mathlib.Core.Bool.{Bool, true}
 use mathlib.Core.List.{List}
@@ -11,23 +12,20 @@ use lib.Signed.{mag}
 use borrow.Author.Tests.{leb-true, leb-false}
 use Rattle.branches.proofs.Branches.{by_cond, both_arms}
 use Rattle.shift.specs.declared.Character.{Character}
-use Rattle.shift.specs.declared.Due.{Due}
-use Rattle.shift.specs.declared.Due.TheVariants.{Never, At}
-use Rattle.shift.specs.declared.Holding.TheVariants.{Empty, Byte}
-use Rattle.shift.specs.declared.Receiver.TheVariants.{Idle, Busy}
-use Rattle.capi.specs.State.{u8_max, u32_max, flag, at, due_max, holding_max, format_max, character_max, tx_max, word_max, rx_max, port_max, fits, due_in, holding_in, format_in, character_in, tail_of, tx_of, tx_in, position_of, word_in, rx_in, port_of, port_in, Decoded, a_port, nothing, decode}
+use Rattle.port.specs.declared.Port.{Port}
+use Rattle.capi.specs.State.{u8_max, u32_max, flag, at, due_max, holding_max, format_max, character_max, tx_max, word_max, rx_max, port_max, fits, number_in, format_in, character_in, tail_of, tx_of, tx_in, position_of, word_in, rx_in, port_of, port_in, decode}
 use Rattle.capi.specs.Round.{DueTyped, HoldingTyped, FormatTyped, CharacterTyped, TxTyped, RxTyped, ReceiverTyped, PortTyped}
 use Rattle.capi.proofs.Fits.{fits_at, part_fits}
 use Rattle.array_laws.specs.Typed.{DecodedTyped}
 
 -- ---- the parts
-due_in_typed : (s : List ℕ) → fits due_max s ≡ true → DueTyped (due_in s)
-unfolding due_in
-due_in_typed s h = both_arms DueTyped (flag (at s 0)) (At (at s 1)) Never (fits_at due_max s 1 h) tt
+due_in_typed : (s : List ℕ) → fits due_max s ≡ true → DueTyped (number_in s)
+unfolding number_in
+due_in_typed s h = both_arms DueTyped (flag (at s 0)) (Some (at s 1)) None (fits_at due_max s 1 h) tt
 
-holding_in_typed : (s : List ℕ) → fits holding_max s ≡ true → HoldingTyped (holding_in s)
-unfolding holding_in
-holding_in_typed s h = both_arms HoldingTyped (flag (at s 0)) (Byte (at s 1)) Empty (fits_at holding_max s 1 h) tt
+holding_in_typed : (s : List ℕ) → fits holding_max s ≡ true → HoldingTyped (number_in s)
+unfolding number_in
+holding_in_typed s h = both_arms HoldingTyped (flag (at s 0)) (Some (at s 1)) None (fits_at holding_max s 1 h) tt
 
 format_in_typed : (s : List ℕ) → fits format_max s ≡ true → FormatTyped (format_in s)
 unfolding format_in
@@ -38,7 +36,7 @@ unfolding character_in
 character_in_typed s h =
     record { format = format_in_typed _ (part_fits character_max format_max s 0 6 h refl); word≤ = fits_at character_max s 6 h }
 
-tx_of_typed : (tag : ℕ) (k : Character) (cell : ℕ) (d : Due) (n : ℕ) (loaded : Bool) → CharacterTyped k → cell ≤ u8_max → DueTyped d → n ≤ u32_max
+tx_of_typed : (tag : ℕ) (k : Character) (cell : ℕ) (d : Option ℕ) (n : ℕ) (loaded : Bool) → CharacterTyped k → cell ≤ u8_max → DueTyped d → n ≤ u32_max
     → TxTyped (tx_of tag k cell d n loaded)
 unfolding tx_of tail_of
 tx_of_typed tag k cell d n loaded hk hc hd hn =
@@ -73,7 +71,7 @@ word_in_typed s h =
 
 rx_in_typed : (s : List ℕ) → fits rx_max s ≡ true → ReceiverTyped (rx_in s)
 unfolding rx_in
-rx_in_typed s h = both_arms ReceiverTyped (flag (at s 0)) (Busy (word_in _)) Idle (word_in_typed _ (part_fits rx_max word_max s 1 12 h refl)) tt
+rx_in_typed s h = both_arms ReceiverTyped (flag (at s 0)) (Some (word_in _)) None (word_in_typed _ (part_fits rx_max word_max s 1 12 h refl)) tt
 
 port_in_typed : (s : List ℕ) → fits port_max s ≡ true → PortTyped (port_in s)
 unfolding port_in port_of
@@ -100,11 +98,11 @@ port_in_typed s h =
     }
 
 -- ---- the port
-TypedIn : Decoded → Type 0
-TypedIn nothing = Unit {0}
-TypedIn (a_port p) = PortTyped p
+TypedIn : Option Port → Type 0
+TypedIn None = Unit {0}
+TypedIn (Some p) = PortTyped p
 
 pub decoded_typed : DecodedTyped
 unfolding DecodedTyped decode TypedIn
 decoded_typed s p e =
-    subst TypedIn e (by_cond TypedIn (fits port_max s) (a_port (port_in s)) nothing (λ h. port_in_typed s h) (λ h. tt))
+    subst TypedIn e (by_cond TypedIn (fits port_max s) (Some (port_in s)) None (λ h. port_in_typed s h) (λ h. tt))

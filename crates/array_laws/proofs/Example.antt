@@ -13,7 +13,7 @@ use Rattle.recovery.specs.Recovery.{rest_end, run_wired}
 use Rattle.recovery.proofs.Computes.{computes}
 use Rattle.script_laws.specs.Runs.{Action, port_after}
 use Rattle.script_laws.proofs.Example as worked
-use Rattle.capi.specs.State.{encode, port_max, fits, due_in, holding_in, format_in, character_in, tail_of, tx_of, tx_in, position_of, word_in, rx_in, port_of, port_in, decode}
+use Rattle.capi.specs.State.{encode, port_max, fits, number_in, format_in, character_in, tail_of, tx_of, tx_in, position_of, word_in, rx_in, port_of, port_in, decode}
 use Rattle.capi.specs.Exports.{fresh_state, call}
 use Rattle.array_laws.specs.Arrays.{Exported, sci3_call, array_after, actions, exported, AllActionsExported, ArraysArePorts}
 use Rattle.array_laws.proofs.Arrays.{all_actions_exported, arrays_are_ports}
@@ -37,5 +37,5 @@ at_edge = refl
 
 -- the same in numbers, through the array: module, main clock, subclock, reset mode, half count, phase, edge
 in_numbers : take 7 (drop 10 (array_after (encode fresh) unknown_kind)) ≡ 1 ∷ 1 ∷ 0 ∷ 0 ∷ 32 ∷ 1 ∷ 1 ∷ []
-unfolding computes state_after call decode fits port_in port_of due_in holding_in format_in character_in tx_in tx_of tail_of word_in rx_in position_of encode
+unfolding computes state_after call decode fits port_in port_of number_in format_in character_in tx_in tx_of tail_of word_in rx_in position_of encode
 in_numbers = refl

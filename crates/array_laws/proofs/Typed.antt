@@ -1,5 +1,6 @@
 -- A port that passes the field test, and whose other numbers are in range (port_laws' Ranges.antt), is typed; so every grown port is.
 -- Assumes nothing.
+use Rattle.std.specs.Prelude.{Option, None, Some}
 use mathlib.Core.Path.{◌≡◌, refl, subst}
 use Prim.Native.Nat.{ℕ, ◌^◌, ◌≤◌, ◌<◌}
 use native.Mathlib.Omega.{arith}
@@ -14,17 +15,9 @@ use Rattle.frame.specs.Frame.{stop, bits, number, frame, word, data_of, format_v
 use Rattle.frame.proofs.Truth.{and_left, and_right}
 use Rattle.frame.proofs.Laws.{one_if≤}
 use Rattle.frame.proofs.Words.{Shape, shape, bits_length, number_lt, cells_length, word_plain, word_clocked}
-use Rattle.shift.specs.declared.Due.{Due}
-use Rattle.shift.specs.declared.Due.TheVariants.{Never, At}
-use Rattle.shift.specs.declared.Holding.{Holding}
-use Rattle.shift.specs.declared.Holding.TheVariants.{Empty, Byte}
 use Rattle.shift.specs.declared.Character.{Character}
-use Rattle.shift.specs.declared.Loaded.{Loaded}
-use Rattle.shift.specs.declared.Loaded.TheVariants.{Nothing, Next}
 use Rattle.shift.specs.declared.Tx.{Tx}
 use Rattle.shift.specs.declared.Tx.TheVariants.{Off, Blocked, Mark, Start, Data, Tail}
-use Rattle.shift.specs.declared.Receiver.{Receiver}
-use Rattle.shift.specs.declared.Receiver.TheVariants.{Idle, Busy}
 use Rattle.shift.specs.Valid.{character_valid}
 use Rattle.shift.specs.Private.Ready.{PlacedIn}
 use Rattle.shift.proofs.SignedLaws.{place_mag}
@@ -44,6 +37,7 @@ use Rattle.port_laws.proofs.Ranges.{Three, three, keeps_ranges, grown_in_range}
 use Rattle.capi.specs.State.{u16_max}
 use Rattle.capi.specs.Round.{DueTyped, HoldingTyped, FormatTyped, CharacterTyped, LoadedTyped, TxTyped, ReceiverTyped, PortTyped}
 use Rattle.array_laws.specs.Typed.{FreshTyped, KeepsTyped, GrownTyped}
+use Rattle.shift.specs.declared.Rx.{Rx}
 
 -- ---- from the field test
 format_typed : (f : Format) → format_valid f ≡ true → FormatTyped f
@@ -69,14 +63,14 @@ character_typed k g =
     let same : word k.format (data_of k.format k.word) ≡ k.word = eqb-true _ k.word (and_right (format_valid k.format) _ g) in
     record { format = format_typed k.format f; word≤ = subst (λ (w : ℕ). w ≤ u16_max) same (word≤ k.format (data_of k.format k.word) (shape k.format f)) }
 
-loaded_typed : (l : Loaded) → GoodLoaded l → LoadedTyped l
-loaded_typed Nothing g = tt
-loaded_typed (Next k) g = character_typed k g
+loaded_typed : (l : Option Character) → GoodLoaded l → LoadedTyped l
+loaded_typed None g = tt
+loaded_typed (Some k) g = character_typed k g
 
 module _ (h : ℕ) (low : h ≤ limit) where
-  due_typed : (d : Due) → DueMaybe h d → DueTyped d
-  due_typed Never a = tt
-  due_typed (At n) a = omega (arith, low, a.1)
+  due_typed : (d : Option ℕ) → DueMaybe h d → DueTyped d
+  due_typed None a = tt
+  due_typed (Some n) a = omega (arith, low, a.1)
 
   cell_typed : (k : Character) (cell : ℕ) → Good k → cell < cell_end k.format → cell ≤ 255
   unfolding character_valid
@@ -93,9 +87,9 @@ module _ (h : ℕ) (low : h ≤ limit) where
   tx_typed (Data k cell d) f = (character_typed k f.0, cell_typed k cell f.0 f.1, due_typed d (by_maybe k.format.synchronous h d f.2))
   tx_typed (Tail l d) f = (loaded_typed l f.0, due_typed d f.1)
 
-  rx_typed : (x : Receiver) → RxFits h x → PlacedIn x → WordInRange x → ReceiverTyped x
-  rx_typed Idle f p w = tt
-  rx_typed (Busy r) f p w =
+  rx_typed : (x : Option Rx) → RxFits h x → PlacedIn x → WordInRange x → ReceiverTyped x
+  rx_typed None f p w = tt
+  rx_typed (Some r) f p w =
       record {
         format = format_typed r.format f.format;
         value≤ = omega (arith, w.0);
@@ -104,9 +98,9 @@ module _ (h : ℕ) (low : h ≤ limit) where
         next = due_typed r.next (by_maybe r.format.synchronous h r.next f.due);
       }
 
-holding_typed : (x : Holding) → HeldInRange x → HoldingTyped x
-holding_typed Empty w = tt
-holding_typed (Byte b) w = omega (arith, w)
+holding_typed : (x : Option ℕ) → HeldInRange x → HoldingTyped x
+holding_typed None w = tt
+holding_typed (Some b) w = omega (arith, w)
 
 -- ---- with the ranges
 pub port_typed : (p : Port) → valid p ≡ true → InRange p → PortTyped p
@@ -136,13 +130,13 @@ port_typed p e k =
     }
 
 -- ---- and back: what is typed is in range
-held_in_range : (x : Holding) → HoldingTyped x → HeldInRange x
-held_in_range Empty w = tt
-held_in_range (Byte b) w = omega (arith, w)
+held_in_range : (x : Option ℕ) → HoldingTyped x → HeldInRange x
+held_in_range None w = tt
+held_in_range (Some b) w = omega (arith, w)
 
-word_in_range : (x : Receiver) → ReceiverTyped x → WordInRange x
-word_in_range Idle w = tt
-word_in_range (Busy r) w = (omega (arith, w.value≤), omega (arith, w.error≤))
+word_in_range : (x : Option Rx) → ReceiverTyped x → WordInRange x
+word_in_range None w = tt
+word_in_range (Some r) w = (omega (arith, w.value≤), omega (arith, w.error≤))
 
 pub typed_in_range : (p : Port) → PortTyped p → InRange p
 typed_in_range p t =

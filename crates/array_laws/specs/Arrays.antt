@@ -3,7 +3,7 @@
 -- The array is nobody else's to write meanwhile. Operands are any numbers, those of 32 bits among them.
 -- Proved in proofs/Arrays.antt.
 -- Assumes nothing.
-use Rattle.std.specs.Prelude.{◌≡◌, ℕ, ◌<◌, true, false, cond, ◌&&◌, List, [], ◌∷◌, ◌++◌, map, leb, length}
+use Rattle.std.specs.Prelude.{◌≡◌, ℕ, ◌<◌, true, false, cond, ◌&&◌, List, [], ◌∷◌, ◌++◌, map, leb, length, Some}
 use Rattle.frame.specs.Frame.{one_if}
 use Rattle.port.specs.declared.Port.{Port}
 use Rattle.command.specs.declared.Command.{Command}
@@ -18,7 +18,7 @@ use Rattle.recovery.specs.Line.{LineItem}
 use Rattle.recovery.specs.Layers.{Carried, state_after}
 use Rattle.recovery.specs.Recovery.{HistoryEnd, Rest, Words, rest_end, start, run_wired as run_wired}
 use Rattle.script_laws.specs.Runs.{Action, makes_call, plays_script, leaves, counts_as, port_after, all_calls}
-use Rattle.capi.specs.State.{a_port, decode, encode, port_max}
+use Rattle.capi.specs.State.{decode, encode, port_max}
 use Rattle.capi.specs.Exports.{lent, refusal, call_left, call, pins_number, pins_answer, interrupt_answer, fresh_state, playing, played}
 
 -- ---- exported calls
@@ -61,7 +61,7 @@ AllActionsExported = (acts : List Action) → actions (map exported acts) ≡ ac
 -- ---- the array holds the port
 -- an array that decodes to a port, as one that was stored and is lent again: it then decodes to the port after these actions
 abbrev pub Holds : List ℕ → Port → Type 0
-Holds s p = decode s ≡ a_port p
+Holds s p = decode s ≡ Some p
 
 unfoldable pub ArraysHoldPorts : Type 0
 ArraysHoldPorts = (s : List ℕ) (p : Port) (es : List Exported) → Holds s p → Holds (array_after s es) (state_after leaves p (actions es))

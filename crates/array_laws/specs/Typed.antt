@@ -2,16 +2,16 @@
 -- encoding decodes to it.
 -- Proved in proofs/Typed.antt.
 -- Assumes nothing.
-use Rattle.std.specs.Prelude.{◌≡◌, ℕ, List}
+use Rattle.std.specs.Prelude.{◌≡◌, ℕ, List, Some}
 use Rattle.port.specs.declared.Port.{Port}
 use Rattle.command.specs.declared.Command.{Command}
 use Rattle.port.specs.Calls.{done, direct, run}
 use Rattle.port.specs.Power.{fresh}
-use Rattle.capi.specs.State.{a_port, decode}
+use Rattle.capi.specs.State.{decode}
 use Rattle.capi.specs.Round.{PortTyped}
 
 unfoldable pub DecodedTyped : Type 0
-DecodedTyped = (s : List ℕ) (p : Port) → decode s ≡ a_port p → PortTyped p
+DecodedTyped = (s : List ℕ) (p : Port) → decode s ≡ Some p → PortTyped p
 
 unfoldable pub FreshTyped : Type 0
 FreshTyped = PortTyped fresh

@@ -1,17 +1,17 @@
 -- What a list that fits its places' greatest numbers gives: how long it is, how large each number is, and that each part of it fits in turn.
 -- Assumes nothing.
 use mathlib.Core.Path.{◌≡◌, refl, sym, ap, ap₂, ◌∙◌, subst}
+use mathlib.Core.Logic.{◌⊎◌, inl, inr}
 use mathlib.Core.Bool.{Bool, true, false, ◌&&◌, false≢true}
 use mathlib.Core.List.{List, [], ◌∷◌}
-use Prim.Native.Nat.{ℕ, zero, suc, ◌+◌, ◌<◌, ◌≤◌, zero-le}
+use Prim.Native.Nat.{ℕ, zero, suc, ◌<◌, ◌≤◌, zero-le}
 use native.Mathlib.Omega.{arith}
 use lib.Dec.{leb, ltb}
-use lib.ListN.{length, take, drop, get_or, drop_of_length-le}
+use lib.ListN.{length, take, drop, get_or}
 use mir.Syntax.{w8, w16, w32}
 use mir.Val.{Fits}
 use borrow.Author.Tests.{leb-true, ltb-true, le-leb, lt-leb}
 use Rattle.frame.proofs.Truth.{and_left, and_right}
-use Rattle.script.proofs.Laws.{drop_next}
 use Rattle.capi.specs.State.{fits}
 
 pub fits_length : (ms s : List ℕ) → fits ms s ≡ true → length s ≡ length ms
@@ -70,21 +70,29 @@ part_fits ms ns s i n h e = subst (λ (l : List ℕ). fits l (take n (drop i s))
 
 pub ruleset placed = (index_in, end_in, most_at, u8_at, u16_at, u32_at, part_fits)
 
--- ---- the test, number by number
-module _ (ms s : List ℕ) (i : ℕ) (len : length s ≡ length ms) where
-  next : i < length ms → fits (drop i ms) (drop i s) ≡ (leb (get_or s i 0) (get_or ms i 0) && fits (drop (i + 1) ms) (drop (i + 1) s))
+-- ---- the test, number by number: the first of what is left fits, or does not
+module _ (whole : Bool) (ms ns s t : List ℕ) (m x : ℕ) (so_far : whole ≡ fits ms s) (most : ms ≡ m ∷ ns) (number : s ≡ x ∷ t) where
+  next : whole ≡ (leb x m && fits ns t)
   unfolding fits
-  next h = ap₂ fits (drop_next ms i h) (drop_next s i (omega (arith, len)))
+  next = so_far ∙ ap₂ fits most number
 
-  pub fits_on : i < length ms → get_or s i 0 ≤ get_or ms i 0 → fits ms s ≡ fits (drop i ms) (drop i s) → fits ms s ≡ fits (drop (i + 1) ms) (drop (i + 1) s)
-  fits_on h k e = e ∙ next h ∙ ap (λ (b : Bool). b && fits (drop (i + 1) ms) (drop (i + 1) s)) (le-leb (get_or s i 0) (get_or ms i 0) k)
+  pub fits_on : x ≤ m → whole ≡ fits ns t
+  fits_on k = next ∙ ap (λ (b : Bool). b && fits ns t) (le-leb x m k)
 
-  pub fits_not : i < length ms → get_or ms i 0 < get_or s i 0 → fits ms s ≡ fits (drop i ms) (drop i s) → false ≡ fits ms s
-  fits_not h k e = sym (e ∙ next h ∙ ap (λ (b : Bool). b && fits (drop (i + 1) ms) (drop (i + 1) s)) (lt-leb (get_or s i 0) (get_or ms i 0) k))
+  pub fits_not : m < x → false ≡ whole
+  fits_not k = sym (next ∙ ap (λ (b : Bool). b && fits ns t) (lt-leb x m k))
 
-  pub fits_end : length ms ≤ i → fits ms s ≡ fits (drop i ms) (drop i s) → true ≡ fits ms s
-  unfolding fits
-  fits_end h e = sym (e ∙ ap₂ fits (drop_of_length-le ms h) (drop_of_length-le s {i = i} (omega (arith, len))))
+-- nothing is left
+pub fits_end : (ms s : List ℕ) → length s ≡ length ms → length ms ≡ 0 → true ≡ fits ms s
+unfolding fits
+fits_end [] [] e h = refl
+fits_end [] (x ∷ xs) e h = absurd (omega (arith, e))
+fits_end (m ∷ ms) s e h = absurd (omega (arith, h))
+
+-- of two lists of one length one is at its end, so both are
+pub none_left : {A B : Type 0} (a : A) (b : B) (m n : ℕ) → m ≡ n → ((x : A) × ((m ≡ 0) × (x ≡ a))) ⊎ ((y : B) × ((n ≡ 0) × (y ≡ b))) → n ≡ 0
+none_left a b m n e (inl h) = sym e ∙ h.1.0
+none_left a b m n e (inr h) = h.1.0
 
 pub fits_short : (ms s : List ℕ) → (length s ≡ length ms → ⊥) → false ≡ fits ms s
 fits_short ms s h = go (fits ms s) refl where

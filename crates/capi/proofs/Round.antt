@@ -1,5 +1,6 @@
 -- The claim of specs/Round.antt, proved: an encoding fits its places, and each part of it is read back.
 -- Assumes nothing.
+use Rattle.std.specs.Prelude.{Option, None, Some}
 use mathlib.Core.Path.{◌≡◌, refl, ap, ap₂, ◌∙◌}
 use mathlib.Core.Bool.{Bool, true, false, cond, ◌&&◌, false≢true}
 use mathlib.Core.List.{List, [], ◌∷◌, ◌++◌}
@@ -12,19 +13,12 @@ use borrow.Author.Tests.{le-leb, lt-leb}
 use Rattle.frame.specs.declared.Format.{Format}
 use Rattle.frame.specs.Frame.{one_if}
 use Rattle.port.specs.declared.Port.{Port}
-use Rattle.shift.specs.declared.Due.{Due}
-use Rattle.shift.specs.declared.Due.TheVariants.{Never, At}
-use Rattle.shift.specs.declared.Holding.{Holding}
-use Rattle.shift.specs.declared.Holding.TheVariants.{Empty, Byte}
 use Rattle.shift.specs.declared.Character.{Character}
-use Rattle.shift.specs.declared.Loaded.TheVariants.{Nothing, Next}
 use Rattle.shift.specs.declared.Tx.{Tx}
 use Rattle.shift.specs.declared.Tx.TheVariants.{Off, Blocked, Mark, Start, Data, Tail}
 use Rattle.shift.specs.declared.Rx.{Rx}
-use Rattle.shift.specs.declared.Receiver.{Receiver}
-use Rattle.shift.specs.declared.Receiver.TheVariants.{Idle, Busy}
 use Rattle.shift.specs.Sender.{tx_next}
-use Rattle.capi.specs.State.{flag, due_list, holding_list, format_list, character_list, tx_character, tx_cell, tx_loaded, tx_tag, tx_list, position_number, word_list, rx_list, register_list, power_list, line_list, encode, u8_max, u32_max, u64_max, due_max, holding_max, format_max, character_max, tx_max, word_max, rx_max, register_max, power_max, line_max, port_max, fits, due_in, holding_in, format_in, character_in, tail_of, tx_of, tx_in, position_of, word_in, rx_in, port_of, port_in, a_port, nothing, decode}
+use Rattle.capi.specs.State.{flag, number_list, format_list, character_list, tx_character, tx_cell, tx_loaded, tx_tag, tx_list, position_number, word_list, rx_list, register_list, power_list, line_list, encode, u8_max, u32_max, u64_max, due_max, holding_max, format_max, character_max, tx_max, word_max, rx_max, register_max, power_max, line_max, port_max, fits, number_in, format_in, character_in, tail_of, tx_of, tx_in, position_of, word_in, rx_in, port_of, port_in, decode}
 use Rattle.frame.proofs.Truth.{and_left, and_right}
 use Rattle.frame.proofs.Laws.{one_if≤}
 use Rattle.capi.specs.Round.{DueTyped, HoldingTyped, FormatTyped, CharacterTyped, TxTyped, RxTyped, ReceiverTyped, PortTyped, RoundTrip}
@@ -48,15 +42,15 @@ fits_append (m ∷ ms) (x ∷ xs) ns ys h k =
 
 ruleset sums = (fits_cons, fits_nil, one_if≤)
 
-due_fits : (d : Due) → DueTyped d → fits due_max (due_list d) ≡ true
+due_fits : (d : Option ℕ) → DueTyped d → fits due_max (number_list d) ≡ true
 unfolding fits
-due_fits Never h = refl
-due_fits (At n) h = fits_cons 1 1 (u32_max ∷ []) (n ∷ []) (lit≤ tt) (fits_cons u32_max n [] [] h fits_nil)
+due_fits None h = refl
+due_fits (Some n) h = fits_cons 1 1 (u32_max ∷ []) (n ∷ []) (lit≤ tt) (fits_cons u32_max n [] [] h fits_nil)
 
-holding_fits : (x : Holding) → HoldingTyped x → fits holding_max (holding_list x) ≡ true
+holding_fits : (x : Option ℕ) → HoldingTyped x → fits holding_max (number_list x) ≡ true
 unfolding fits
-holding_fits Empty h = refl
-holding_fits (Byte b) h = fits_cons 1 1 (u8_max ∷ []) (b ∷ []) (lit≤ tt) (fits_cons u8_max b [] [] h fits_nil)
+holding_fits None h = refl
+holding_fits (Some b) h = fits_cons 1 1 (u8_max ∷ []) (b ∷ []) (lit≤ tt) (fits_cons u8_max b [] [] h fits_nil)
 
 format_fits : (f : Format) → FormatTyped f → fits format_max (format_list f) ≡ true
 format_fits f h = search (h.data≤, h.stops≤, h.half≤, sums) depth 20
@@ -74,7 +68,7 @@ tx_parts t ht hk hc hd hl =
     fits_cons 5 (tx_tag t) _ _ ht
     (fits_append character_max (character_list (tx_character t)) _ _ hk
     (fits_cons u8_max (tx_cell t) _ _ hc
-    (fits_append due_max (due_list (tx_next t)) _ _ (due_fits (tx_next t) hd) (fits_cons 1 (tx_loaded t) [] [] hl fits_nil))))
+    (fits_append due_max (number_list (tx_next t)) _ _ (due_fits (tx_next t) hd) (fits_cons 1 (tx_loaded t) [] [] hl fits_nil))))
 
 tx_fits : (t : Tx) → TxTyped t → fits tx_max (tx_list t) ≡ true
 tx_fits Off h = tx_parts Off (lit≤ tt) no_character_fits (lit≤ tt) tt (lit≤ tt)
@@ -82,8 +76,8 @@ tx_fits (Blocked k) h = tx_parts (Blocked k) (lit≤ tt) (character_fits k h) (l
 tx_fits (Mark n) h = tx_parts (Mark n) (lit≤ tt) no_character_fits (lit≤ tt) h (lit≤ tt)
 tx_fits (Start k n) h = tx_parts (Start k n) (lit≤ tt) (character_fits k h.0) (lit≤ tt) h.1 (lit≤ tt)
 tx_fits (Data k c d) h = tx_parts (Data k c d) (lit≤ tt) (character_fits k h.0) h.1 h.2 (lit≤ tt)
-tx_fits (Tail Nothing d) h = tx_parts (Tail Nothing d) (lit≤ tt) no_character_fits (lit≤ tt) h.1 (lit≤ tt)
-tx_fits (Tail (Next k) d) h = tx_parts (Tail (Next k) d) (lit≤ tt) (character_fits k h.0) (lit≤ tt) h.1 (lit≤ tt)
+tx_fits (Tail None d) h = tx_parts (Tail None d) (lit≤ tt) no_character_fits (lit≤ tt) h.1 (lit≤ tt)
+tx_fits (Tail (Some k) d) h = tx_parts (Tail (Some k) d) (lit≤ tt) (character_fits k h.0) (lit≤ tt) h.1 (lit≤ tt)
 
 position≤ : (z : ℤ) → mag z < 128 → position_number z ≤ u8_max
 position≤ (pos n) h = omega arith
@@ -94,10 +88,10 @@ word_fits r h =
     fits_append format_max (format_list r.format) _ _ (format_fits r.format h.format)
     (search (h.value≤, position≤ r.position h.position<, h.error≤, due_fits r.next h.next, sums) depth 20)
 
-rx_fits : (x : Receiver) → ReceiverTyped x → fits rx_max (rx_list x) ≡ true
+rx_fits : (x : Option Rx) → ReceiverTyped x → fits rx_max (rx_list x) ≡ true
 unfolding fits
-rx_fits Idle h = refl
-rx_fits (Busy r) h = fits_cons 1 1 word_max (word_list r) (lit≤ tt) (word_fits r h)
+rx_fits None h = refl
+rx_fits (Some r) h = fits_cons 1 1 word_max (word_list r) (lit≤ tt) (word_fits r h)
 
 module _ (p : Port) (h : PortTyped p) where
   register_fits : fits register_max (register_list p) ≡ true
@@ -111,14 +105,14 @@ module _ (p : Port) (h : PortTyped p) where
 
   line_fits : fits line_max (line_list p) ≡ true
   line_fits =
-      search (h.start≤, fits_append due_max (due_list p.sync_next) _ _ (due_fits p.sync_next h.next) tally_fits, sums) depth 20
+      search (h.start≤, fits_append due_max (number_list p.sync_next) _ _ (due_fits p.sync_next h.next) tally_fits, sums) depth 20
 
   encode_fits : fits port_max (encode p) ≡ true
   unfolding encode
   encode_fits =
       fits_append register_max (register_list p) _ _ register_fits
       (fits_append power_max (power_list p) _ _ power_fits
-      (fits_append holding_max (holding_list p.holding) _ _ (holding_fits p.holding h.holding)
+      (fits_append holding_max (number_list p.holding) _ _ (holding_fits p.holding h.holding)
       (fits_append tx_max (tx_list p.tx) _ _ (tx_fits p.tx h.tx)
       (fits_append rx_max (rx_list p.rx) _ _ (rx_fits p.rx h.rx) line_fits))))
 
@@ -127,15 +121,10 @@ flag_back : (b : Bool) → flag (one_if b) ≡ b
 flag_back true = refl
 flag_back false = refl
 
-due_back : (d : Due) → due_in (due_list d) ≡ d
-unfolding due_in
-due_back Never = refl
-due_back (At n) = refl
-
-holding_back : (x : Holding) → holding_in (holding_list x) ≡ x
-unfolding holding_in
-holding_back Empty = refl
-holding_back (Byte b) = refl
+number_back : (x : Option ℕ) → number_in (number_list x) ≡ x
+unfolding number_in
+number_back None = refl
+number_back (Some n) = refl
 
 format_back : (f : Format) → format_in (format_list f) ≡ f
 unfolding format_in
@@ -153,9 +142,9 @@ tx_back Off = refl
 tx_back (Blocked k) = ap Blocked (character_back k)
 tx_back (Mark n) = refl
 tx_back (Start k n) = ap (λ (x : Character). Start x n) (character_back k)
-tx_back (Data k c d) = ap₂ (λ (x : Character) (y : Due). Data x c y) (character_back k) (due_back d)
-tx_back (Tail Nothing d) = ap (Tail Nothing) (due_back d)
-tx_back (Tail (Next k) d) = ap₂ (λ (x : Character) (y : Due). Tail (Next x) y) (character_back k) (due_back d)
+tx_back (Data k c d) = ap₂ (λ (x : Character) (y : Option ℕ). Data x c y) (character_back k) (number_back d)
+tx_back (Tail None d) = ap (Tail None) (number_back d)
+tx_back (Tail (Some k) d) = ap₂ (λ (x : Character) (y : Option ℕ). Tail (Some x) y) (character_back k) (number_back d)
 
 position_back : (z : ℤ) → mag z < 128 → position_of (position_number z) ≡ z
 unfolding position_of
@@ -176,13 +165,13 @@ word_back r h =
       position = position_back r.position h i;
       parity = flag_back r.parity i;
       error = r.error;
-      next = due_back r.next i;
+      next = number_back r.next i;
     }
 
-rx_back : (x : Receiver) → ReceiverTyped x → rx_in (rx_list x) ≡ x
+rx_back : (x : Option Rx) → ReceiverTyped x → rx_in (rx_list x) ≡ x
 unfolding rx_in
-rx_back Idle h = refl
-rx_back (Busy r) h = ap Busy (word_back r h.position<)
+rx_back None h = refl
+rx_back (Some r) h = ap Some (word_back r h.position<)
 
 port_back : (p : Port) → PortTyped p → port_in (encode p) ≡ p
 unfolding port_in port_of encode
@@ -206,7 +195,7 @@ port_back p h =
       half = p.half;
       high = flag_back p.high i;
       edge = flag_back p.edge i;
-      holding = holding_back p.holding i;
+      holding = number_back p.holding i;
       tx = tx_back p.tx i;
       rx = rx_back p.rx h.rx i;
       uart = flag_back p.uart i;
@@ -214,7 +203,7 @@ port_back p h =
       input = flag_back p.input i;
       input_clock = flag_back p.input_clock i;
       sck = flag_back p.sck i;
-      sync_next = due_back p.sync_next i;
+      sync_next = number_back p.sync_next i;
       transmitted = p.transmitted;
       received = p.received;
     }
@@ -222,4 +211,4 @@ port_back p h =
 pub round_trip : RoundTrip
 unfolding decode
 round_trip p h =
-    ap (λ (b : Bool). cond b (a_port (port_in (encode p))) nothing) (encode_fits p h) ∙ ap a_port (port_back p h)
+    ap (λ (b : Bool). cond b (Some (port_in (encode p))) None) (encode_fits p h) ∙ ap Some (port_back p h)

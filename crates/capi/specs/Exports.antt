@@ -1,12 +1,10 @@
 -- What each exported function answers, and what it leaves in the lent array.
 -- Of all but sci3_play: an answer below 256 is that of an accepted call; 256 and document 01's number is a refusal, and the array is then as it was.
 -- Assumes nothing.
-use Rattle.std.specs.Prelude.{ℕ, ◌+◌, ◌*◌, cond, ◌&&◌, List, [], ◌∷◌, eqb, leb, length}
+use Rattle.std.specs.Prelude.{ℕ, ◌+◌, ◌*◌, cond, ◌&&◌, List, [], ◌∷◌, eqb, leb, length, Option, None, Some}
 use Rattle.frame.specs.Frame.{one_if}
 use Rattle.pins.specs.declared.Drive.{Drive}
 use Rattle.pins.specs.declared.Drive.TheVariants.{Floating, Low, High}
-use Rattle.pins.specs.declared.Clock.{Clock}
-use Rattle.pins.specs.declared.Clock.TheVariants.{Free, Driven}
 use Rattle.pins.specs.declared.Pins.{Pins}
 use Rattle.command.specs.Command.{command_of}
 use Rattle.port.specs.Calls.{Answer, done, refused, direct}
@@ -16,7 +14,7 @@ use Rattle.port.specs.Valid.{valid}
 use Rattle.port.specs.declared.Port.{Port}
 use Rattle.machine.specs.Machine.{Run}
 use Rattle.player.specs.Play.{play}
-use Rattle.capi.specs.State.{Decoded, a_port, nothing, decode, encode, port_max}
+use Rattle.capi.specs.State.{decode, encode, port_max}
 
 -- an answer, and the array after it
 pub record Lent : Type 0 where
@@ -36,9 +34,9 @@ call_left s (done v q) = lent v (encode q)
 call_left s (refused n offset q) = lent (refusal n) s
 
 -- "Direct calls test 8" first, so it comes before the test of the kind
-abbrev pub call_on : ℕ → ℕ → ℕ → List ℕ → Decoded → Lent
-call_on kind a b s nothing = lent (refusal 8) s
-call_on kind a b s (a_port p) =
+abbrev pub call_on : ℕ → ℕ → ℕ → List ℕ → Option Port → Lent
+call_on kind a b s None = lent (refusal 8) s
+call_on kind a b s (Some p) =
     cond (valid p) (cond (leb 1 kind && leb kind 7) (call_left s (direct (command_of kind a b) p)) (lent (refusal 7) s)) (lent (refusal 8) s)
 
 unfoldable pub call : ℕ → ℕ → ℕ → List ℕ → Lent
@@ -51,25 +49,25 @@ drive_number Floating = 1
 drive_number Low = 2
 drive_number High = 3
 
-abbrev pub clock_number : Clock → ℕ
-clock_number Free = 0
-clock_number (Driven d) = drive_number d
+abbrev pub clock_number : Option Drive → ℕ
+clock_number None = 0
+clock_number (Some d) = drive_number d
 
 -- bits 0 and 1 the clock pin, 2 and 3 document 01's transmit level, 4 whether reception is enabled
 unfoldable pub pins_number : Pins → ℕ
 pins_number x = clock_number x.clock + (4 * level_number x.transmit + 16 * one_if x.receive)
 
-abbrev pub pins_on : Decoded → ℕ
-pins_on nothing = refusal 8
-pins_on (a_port p) = pins_number (pins p)
+abbrev pub pins_on : Option Port → ℕ
+pins_on None = refusal 8
+pins_on (Some p) = pins_number (pins p)
 
 unfoldable pub pins_answer : List ℕ → ℕ
 pins_answer s = pins_on (decode s)
 
 -- ---- sci3_interrupt
-abbrev pub interrupt_on : Decoded → ℕ
-interrupt_on nothing = refusal 8
-interrupt_on (a_port p) = one_if (interrupt p)
+abbrev pub interrupt_on : Option Port → ℕ
+interrupt_on None = refusal 8
+interrupt_on (Some p) = one_if (interrupt p)
 
 unfoldable pub interrupt_answer : List ℕ → ℕ
 interrupt_answer s = interrupt_on (decode s)
@@ -95,9 +93,9 @@ playing n t s l = record { number = n; told = t; state = s; log = l }
 abbrev pub run_left : List ℕ → Run Port → Playing
 run_left s r = playing r.number (r.offset ∷ r.used ∷ []) (cond (eqb r.number 8) s (encode r.state)) r.log
 
-abbrev pub play_on : List ℕ → List ℕ → List ℕ → Decoded → Playing
-play_on s script log nothing = playing 8 (0 ∷ 0 ∷ []) s log
-play_on s script log (a_port p) = run_left s (play p script log)
+abbrev pub play_on : List ℕ → List ℕ → List ℕ → Option Port → Playing
+play_on s script log None = playing 8 (0 ∷ 0 ∷ []) s log
+play_on s script log (Some p) = run_left s (play p script log)
 
 unfoldable pub played : List ℕ → List ℕ → List ℕ → Playing
 played s script log = play_on s script log (decode s)

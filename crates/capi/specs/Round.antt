@@ -1,31 +1,23 @@
 -- Decoding what was encoded gives the port back: of every port whose numbers are in the ranges of their declared types, as are those of every port that an
 -- array holds and of every port grown from a fresh one (array_laws' Typed.antt).
 -- Assumes nothing.
-use Rattle.std.specs.Prelude.{◌≡◌, ◌≤◌, ◌<◌}
+use Rattle.std.specs.Prelude.{◌≡◌, ◌≤◌, ◌<◌, Option, None, Some, ℕ}
 use Rattle.std.specs.Int.Signed.{mag}
 use Rattle.frame.specs.declared.Format.{Format}
 use Rattle.port.specs.declared.Port.{Port}
-use Rattle.shift.specs.declared.Due.{Due}
-use Rattle.shift.specs.declared.Due.TheVariants.{Never, At}
-use Rattle.shift.specs.declared.Holding.{Holding}
-use Rattle.shift.specs.declared.Holding.TheVariants.{Empty, Byte}
 use Rattle.shift.specs.declared.Character.{Character}
-use Rattle.shift.specs.declared.Loaded.{Loaded}
-use Rattle.shift.specs.declared.Loaded.TheVariants.{Nothing, Next}
 use Rattle.shift.specs.declared.Tx.{Tx}
 use Rattle.shift.specs.declared.Tx.TheVariants.{Off, Blocked, Mark, Start, Data, Tail}
 use Rattle.shift.specs.declared.Rx.{Rx}
-use Rattle.shift.specs.declared.Receiver.{Receiver}
-use Rattle.shift.specs.declared.Receiver.TheVariants.{Idle, Busy}
-use Rattle.capi.specs.State.{u8_max, u16_max, u32_max, u64_max, a_port, decode, encode}
+use Rattle.capi.specs.State.{u8_max, u16_max, u32_max, u64_max, decode, encode}
 
-abbrev pub DueTyped : Due → Type 0
-DueTyped Never = Unit
-DueTyped (At n) = n ≤ u32_max
+abbrev pub DueTyped : Option ℕ → Type 0
+DueTyped None = Unit
+DueTyped (Some n) = n ≤ u32_max
 
-abbrev pub HoldingTyped : Holding → Type 0
-HoldingTyped Empty = Unit
-HoldingTyped (Byte b) = b ≤ u8_max
+abbrev pub HoldingTyped : Option ℕ → Type 0
+HoldingTyped None = Unit
+HoldingTyped (Some b) = b ≤ u8_max
 
 pub record FormatTyped (f : Format) : Type 0 where
   pub data≤ : f.«data» ≤ u8_max
@@ -36,9 +28,9 @@ pub record CharacterTyped (k : Character) : Type 0 where
   pub format : FormatTyped k.format
   pub word≤ : k.word ≤ u16_max
 
-abbrev pub LoadedTyped : Loaded → Type 0
-LoadedTyped Nothing = Unit
-LoadedTyped (Next k) = CharacterTyped k
+abbrev pub LoadedTyped : Option Character → Type 0
+LoadedTyped None = Unit
+LoadedTyped (Some k) = CharacterTyped k
 
 abbrev pub TxTyped : Tx → Type 0
 TxTyped Off = Unit
@@ -56,9 +48,9 @@ pub record RxTyped (r : Rx) : Type 0 where
   pub error≤ : r.error ≤ u8_max
   pub next : DueTyped r.next
 
-abbrev pub ReceiverTyped : Receiver → Type 0
-ReceiverTyped Idle = Unit
-ReceiverTyped (Busy r) = RxTyped r
+abbrev pub ReceiverTyped : Option Rx → Type 0
+ReceiverTyped None = Unit
+ReceiverTyped (Some r) = RxTyped r
 
 pub record PortTyped (p : Port) : Type 0 where
   pub spcr≤ : p.spcr ≤ u8_max
@@ -81,4 +73,4 @@ pub record PortTyped (p : Port) : Type 0 where
   pub received≤ : p.received ≤ u64_max
 
 abbrev pub RoundTrip : Type 0
-RoundTrip = (p : Port) → PortTyped p → decode (encode p) ≡ a_port p
+RoundTrip = (p : Port) → PortTyped p → decode (encode p) ≡ Some p

@@ -11,48 +11,25 @@
 -- A bool is 0 or 1. An enum is its variant's number, counted from 0 in the order of its declaration, and then its values at places of their own; a place
 -- that a variant does not use is written as 0; where the list is read, only its range is looked at.
 -- Assumes nothing.
-use Rattle.std.specs.Prelude.{ℕ, ◌+◌, ◌-◌, Bool, true, false, cond, not, ◌&&◌, List, [], ◌∷◌, ◌++◌, eqb, leb, ℤ, pos, negsuc, take, drop, get_or}
+use Rattle.std.specs.Prelude.{ℕ, ◌+◌, ◌-◌, Bool, true, false, cond, not, ◌&&◌, List, [], ◌∷◌, ◌++◌, eqb, leb, ℤ, pos, negsuc, take, drop, get_or, Option, None, Some, unwrap_or}
 use Rattle.frame.specs.declared.Format.{Format}
 use Rattle.frame.specs.Frame.{one_if}
 use Rattle.port.specs.declared.Port.{Port}
-use Rattle.shift.specs.declared.Due.{Due}
-use Rattle.shift.specs.declared.Due.TheVariants.{Never, At}
-use Rattle.shift.specs.declared.Holding.{Holding}
-use Rattle.shift.specs.declared.Holding.TheVariants.{Empty, Byte}
 use Rattle.shift.specs.declared.Character.{Character}
-use Rattle.shift.specs.declared.Loaded.{Loaded}
-use Rattle.shift.specs.declared.Loaded.TheVariants.{Nothing, Next}
 use Rattle.shift.specs.declared.Tx.{Tx}
 use Rattle.shift.specs.declared.Tx.TheVariants.{Off, Blocked, Mark, Start, Data, Tail}
 use Rattle.shift.specs.declared.Rx.{Rx}
-use Rattle.shift.specs.declared.Receiver.{Receiver}
-use Rattle.shift.specs.declared.Receiver.TheVariants.{Idle, Busy}
 use Rattle.shift.specs.Sender.{tx_next}
 
 -- ---- a port as numbers
--- a half, if there is one
-abbrev pub due_tag : Due → ℕ
-due_tag Never = 0
-due_tag (At n) = 1
+-- whether there is a value
+abbrev pub tag : {A : Type 0} → Option A → ℕ
+tag None = 0
+tag (Some x) = 1
 
-abbrev pub due_half : Due → ℕ
-due_half Never = 0
-due_half (At n) = n
-
-abbrev pub due_list : Due → List ℕ
-due_list d = due_tag d ∷ due_half d ∷ []
-
--- the held byte, if there is one
-abbrev pub holding_tag : Holding → ℕ
-holding_tag Empty = 0
-holding_tag (Byte b) = 1
-
-abbrev pub held_byte : Holding → ℕ
-held_byte Empty = 0
-held_byte (Byte b) = b
-
-abbrev pub holding_list : Holding → List ℕ
-holding_list h = holding_tag h ∷ held_byte h ∷ []
+-- a number, if there is one: a due half, or the held byte
+abbrev pub number_list : Option ℕ → List ℕ
+number_list x = tag x ∷ unwrap_or x 0 ∷ []
 
 abbrev pub format_list : Format → List ℕ
 format_list f = one_if f.synchronous ∷ f.«data» ∷ one_if f.parity ∷ one_if f.odd ∷ f.stops ∷ f.half_bit ∷ []
@@ -69,7 +46,7 @@ abbrev pub no_character : Character
 no_character = record { format = no_format; word = 0 }
 
 abbrev pub no_rx : Rx
-no_rx = record { format = no_format; value = 0; position = negsuc 127; parity = false; error = 0; next = Never }
+no_rx = record { format = no_format; value = 0; position = negsuc 127; parity = false; error = 0; next = None }
 
 -- the sender: variant, character, cell, due half, and whether the next word is loaded. The character of a Tail is that word
 abbrev pub tx_tag : Tx → ℕ
@@ -80,21 +57,13 @@ tx_tag (Start k n) = 3
 tx_tag (Data k cell d) = 4
 tx_tag (Tail l d) = 5
 
-abbrev pub loaded_tag : Loaded → ℕ
-loaded_tag Nothing = 0
-loaded_tag (Next k) = 1
-
-abbrev pub loaded_character : Loaded → Character
-loaded_character Nothing = no_character
-loaded_character (Next k) = k
-
 abbrev pub tx_character : Tx → Character
 tx_character Off = no_character
 tx_character (Blocked k) = k
 tx_character (Mark n) = no_character
 tx_character (Start k n) = k
 tx_character (Data k cell d) = k
-tx_character (Tail l d) = loaded_character l
+tx_character (Tail l d) = unwrap_or l no_character
 
 abbrev pub tx_cell : Tx → ℕ
 tx_cell Off = 0
@@ -110,31 +79,23 @@ tx_loaded (Blocked k) = 0
 tx_loaded (Mark n) = 0
 tx_loaded (Start k n) = 0
 tx_loaded (Data k cell d) = 0
-tx_loaded (Tail l d) = loaded_tag l
+tx_loaded (Tail l d) = tag l
 
 abbrev pub tx_list : Tx → List ℕ
 tx_list t =
-    tx_tag t ∷ (character_list (tx_character t) ++ (tx_cell t ∷ (due_list (tx_next t) ++ (tx_loaded t ∷ []))))
+    tx_tag t ∷ (character_list (tx_character t) ++ (tx_cell t ∷ (number_list (tx_next t) ++ (tx_loaded t ∷ []))))
 
 -- the receiver: variant, format, value, position, parity, error, due half. A position stands as itself plus 128
 abbrev pub position_number : ℤ → ℕ
 position_number (pos n) = 128 + n
 position_number (negsuc n) = 127 - n
 
-abbrev pub rx_tag : Receiver → ℕ
-rx_tag Idle = 0
-rx_tag (Busy r) = 1
-
-abbrev pub rx_word : Receiver → Rx
-rx_word Idle = no_rx
-rx_word (Busy r) = r
-
 abbrev pub word_list : Rx → List ℕ
 word_list r =
-    format_list r.format ++ (r.value ∷ position_number r.position ∷ one_if r.parity ∷ r.error ∷ due_list r.next)
+    format_list r.format ++ (r.value ∷ position_number r.position ∷ one_if r.parity ∷ r.error ∷ number_list r.next)
 
-abbrev pub rx_list : Receiver → List ℕ
-rx_list x = rx_tag x ∷ word_list (rx_word x)
+abbrev pub rx_list : Option Rx → List ℕ
+rx_list x = tag x ∷ word_list (unwrap_or x no_rx)
 
 abbrev pub register_list : Port → List ℕ
 register_list p = p.spcr ∷ p.smr ∷ p.brr ∷ p.scr ∷ p.tdr ∷ p.ssr ∷ p.rdr ∷ p.semr ∷ p.ircr ∷ p.seen ∷ []
@@ -146,11 +107,11 @@ power_list p =
 abbrev pub line_list : Port → List ℕ
 line_list p =
     one_if p.uart ∷ p.bit_start ∷ one_if p.input ∷ one_if p.input_clock ∷ one_if p.sck
-    ∷ (due_list p.sync_next ++ (p.transmitted ∷ p.received ∷ []))
+    ∷ (number_list p.sync_next ++ (p.transmitted ∷ p.received ∷ []))
 
 unfoldable pub encode : Port → List ℕ
 encode p =
-    register_list p ++ (power_list p ++ (holding_list p.holding ++ (tx_list p.tx ++ (rx_list p.rx ++ line_list p))))
+    register_list p ++ (power_list p ++ (number_list p.holding ++ (tx_list p.tx ++ (rx_list p.rx ++ line_list p))))
 
 -- ---- the greatest number of each place
 abbrev pub bit_max : ℕ
@@ -219,11 +180,9 @@ at s i = get_or s i 0
 abbrev pub part : ℕ → ℕ → List ℕ → List ℕ
 part i n s = take n (drop i s)
 
-unfoldable pub due_in : List ℕ → Due
-due_in s = cond (flag (at s 0)) (At (at s 1)) Never
-
-unfoldable pub holding_in : List ℕ → Holding
-holding_in s = cond (flag (at s 0)) (Byte (at s 1)) Empty
+-- a number, if there is one
+unfoldable pub number_in : List ℕ → Option ℕ
+number_in s = cond (flag (at s 0)) (Some (at s 1)) None
 
 unfoldable pub format_in : List ℕ → Format
 format_in s =
@@ -233,11 +192,11 @@ unfoldable pub character_in : List ℕ → Character
 character_in s = record { format = format_in (part 0 6 s); word = at s 6 }
 
 -- a word's last cells, and the next word if it is loaded
-unfoldable pub tail_of : Character → Due → Bool → Tx
-tail_of k d loaded = cond loaded (Tail (Next k) d) (Tail Nothing d)
+unfoldable pub tail_of : Character → Option ℕ → Bool → Tx
+tail_of k d loaded = cond loaded (Tail (Some k) d) (Tail None d)
 
 -- the variant that a number names
-unfoldable pub tx_of : ℕ → Character → ℕ → Due → ℕ → Bool → Tx
+unfoldable pub tx_of : ℕ → Character → ℕ → Option ℕ → ℕ → Bool → Tx
 tx_of tag k cell d n loaded =
     cond (eqb tag 0) Off
     (cond (eqb tag 1) (Blocked k)
@@ -247,7 +206,7 @@ tx_of tag k cell d n loaded =
     (tail_of k d loaded)))))
 
 unfoldable pub tx_in : List ℕ → Tx
-tx_in s = tx_of (at s 0) (character_in (part 1 7 s)) (at s 8) (due_in (part 9 2 s)) (at s 10) (flag (at s 11))
+tx_in s = tx_of (at s 0) (character_in (part 1 7 s)) (at s 8) (number_in (part 9 2 s)) (at s 10) (flag (at s 11))
 
 unfoldable pub position_of : ℕ → ℤ
 position_of n = cond (leb 128 n) (pos (n - 128)) (negsuc (127 - n))
@@ -260,14 +219,14 @@ word_in s =
       position = position_of (at s 7);
       parity = flag (at s 8);
       error = at s 9;
-      next = due_in (part 10 2 s);
+      next = number_in (part 10 2 s);
     }
 
-unfoldable pub rx_in : List ℕ → Receiver
-rx_in s = cond (flag (at s 0)) (Busy (word_in (part 1 12 s))) Idle
+unfoldable pub rx_in : List ℕ → Option Rx
+rx_in s = cond (flag (at s 0)) (Some (word_in (part 1 12 s))) None
 
 -- the enums among its fields come with it
-unfoldable pub port_of : List ℕ → Holding → Tx → Receiver → Due → Port
+unfoldable pub port_of : List ℕ → Option ℕ → Tx → Option Rx → Option ℕ → Port
 port_of s h t r d =
     record {
       spcr = at s 0;
@@ -301,12 +260,8 @@ port_of s h t r d =
     }
 
 unfoldable pub port_in : List ℕ → Port
-port_in s = port_of s (holding_in (part 17 2 s)) (tx_in (part 19 12 s)) (rx_in (part 31 13 s)) (due_in (part 49 2 s))
+port_in s = port_of s (number_in (part 17 2 s)) (tx_in (part 19 12 s)) (rx_in (part 31 13 s)) (number_in (part 49 2 s))
 
 -- the port that a list is, if it is one
-pub data Decoded : Type 0 where
-  a_port : Port → Decoded
-  nothing : Decoded
-
-unfoldable pub decode : List ℕ → Decoded
-decode s = cond (fits port_max s) (a_port (port_in s)) nothing
+unfoldable pub decode : List ℕ → Option Port
+decode s = cond (fits port_max s) (Some (port_in s)) None

@@ -2,22 +2,21 @@
 // these functions, and so does crate capi_c, the static library by which C calls them.
 #![tactic(auto)]
 
-ghost use Rattle.std.specs.Prelude.{◌≡◌, true, cond, ◌+◌, ◌≤◌, ◌++◌, eqb, length, take};
-ghost use Rattle.frame.specs.Frame.{one_if};
-ghost use Rattle.port.specs.Calls.{answer, direct};
-ghost use Rattle.command.specs.Command.{command_of};
-ghost use Rattle.capi.specs.Exports.{lent, call_left, call, drive_number, clock_number, pins_number, pins_answer, interrupt_answer, fresh_state, playing, played};
-ghost use Rattle.capi.specs.State.{due_tag, due_half, holding_tag, held_byte, holding_list, format_list, no_format, no_character, no_rx, tx_tag, loaded_tag, loaded_character, tx_character, tx_cell, tx_loaded, tx_list, position_number, rx_tag, rx_word, rx_list, register_list, power_list, line_list, encode, due_max, holding_max, format_max, character_max, tx_max, word_max, rx_max, port_max, fits, due_in, holding_in, format_in, character_in, tail_of, tx_of, tx_in, position_of, word_in, rx_in, port_of, port_in};
+ghost use Rattle.std.specs.Prelude.{◌≡◌, true, cond, ◌+◌, ◌≤◌, ◌++◌, eqb, length, take, OnSome};
+ghost use Rattle.capi.specs.Exports.{lent, call_left, call, pins_number, pins_answer, interrupt_answer, fresh_state, playing, played};
+ghost use Rattle.capi.specs.State.{tag, number_list, format_list, tx_tag, tx_character, tx_cell, tx_loaded, tx_list, position_number, rx_list, register_list, power_list, line_list, encode, due_max, holding_max, format_max, character_max, tx_max, word_max, rx_max, port_max, fits, number_in, format_in, character_in, tx_of, tx_in, position_of, word_in, rx_in, port_of, port_in, decode};
+ghost use Rattle.port.specs.Calls.{answer};
 
+use command::Kind;
 use frame::Format;
-use pins::{Clock, Drive, Pins};
-use port::{Called, Outcome, Port};
-use shift::{Character, Due, Holding, Loaded, Receiver, Rx, Tx};
+use pins::Pins;
+use port::{Called, Port, Refusal};
+use shift::{Character, Rx, Tx};
 
-// How many numbers a state has, and the greatest that each may be.
+// How many numbers a state has, and the greatest that C may give for each.
 const STATE: usize = 53;
 
-const MAXIMA: [u64; 53] = [
+const MAXIMA: [u64; STATE] = [
     255,
     255,
     255,
@@ -74,274 +73,159 @@ const MAXIMA: [u64; 53] = [
 ];
 
 // ---- a port as numbers
-fn bit(b: bool) -> u64
-    ensures value { result ≡ one_if b }
-    ensures small { result ≤ 1 }
+// Whether there is a value.
+fn tag<T: Copy>(x: Option<T>) -> u64
+    ensures { result ≡ tag x }
 {
-    if b { 1 } else { 0 }
+    u64::from(x.is_some())
 }
 
-fn byte(b: u8) -> u64
-    ensures { result ≡ b }
+// A number, if there is one: a due half, or the held byte.
+fn number_words(x: Option<u64>) -> [u64; 2]
+    ensures { result ≡ number_list x }
 {
-    b as u64
-}
-
-fn due_tag(d: Due) -> u64
-    ensures { result ≡ due_tag d }
-{
-    match d {
-        Due::Never => 0,
-        Due::At(_) => 1,
-    }
-}
-
-fn due_half(d: Due) -> u64
-    ensures { result ≡ due_half d }
-{
-    match d {
-        Due::Never => 0,
-        Due::At(n) => n as u64,
-    }
-}
-
-fn holding_tag(h: Holding) -> u64
-    ensures { result ≡ holding_tag h }
-{
-    match h {
-        Holding::Empty => 0,
-        Holding::Byte(_) => 1,
-    }
-}
-
-fn held_byte(h: Holding) -> u64
-    ensures { result ≡ held_byte h }
-{
-    match h {
-        Holding::Empty => 0,
-        Holding::Byte(b) => b as u64,
-    }
-}
-
-fn holding_words(h: Holding) -> [u64; 2]
-    ensures { result ≡ holding_list h }
-{
-    [holding_tag(h), held_byte(h)]
+    [tag(x), x.unwrap_or(0)]
 }
 
 fn format_words(f: Format) -> [u64; 6]
     ensures { result ≡ format_list f }
 {
     [
-        bit(f.synchronous),
-        f.data as u64,
-        bit(f.parity),
-        bit(f.odd),
-        f.stops as u64,
-        f.half_bit as u64,
+        u64::from(f.synchronous),
+        u64::from(f.data),
+        u64::from(f.parity),
+        u64::from(f.odd),
+        u64::from(f.stops),
+        u64::from(f.half_bit),
     ]
 }
 
-fn no_format() -> Format
-    ensures { result ≡ no_format }
-{
-    Format {
-        synchronous: false,
-        data: 0,
-        parity: false,
-        odd: false,
-        stops: 0,
-        half_bit: 0,
-    }
+// What stands where there is none: its numbers are 0.
+const NO_FORMAT: Format = Format {
+    synchronous: false,
+    data: 0,
+    parity: false,
+    odd: false,
+    stops: 0,
+    half_bit: 0,
+};
+
+const NO_CHARACTER: Character = Character {
+    format: NO_FORMAT,
+    word: 0,
+};
+
+const NO_RX: Rx = Rx {
+    format: NO_FORMAT,
+    value: 0,
+    position: -128,
+    parity: false,
+    error: 0,
+    next: None,
+};
+
+// What a sender's numbers for C are made of, beside its due half.
+#[derive(Clone, Copy, Debug, PartialEq, Eq)]
+struct Sender {
+    tag: u64,
+    character: Character,
+    cell: u64,
+    loaded: u64,
 }
 
-fn no_character() -> Character
-    ensures { result ≡ no_character }
+fn sender_of(tx: Tx) -> Sender
+    ensures tag { result.tag ≡ tx_tag tx }
+    ensures character { result.character ≡ tx_character tx }
+    ensures cell { result.cell ≡ tx_cell tx }
+    ensures loaded { result.loaded ≡ tx_loaded tx }
 {
-    Character {
-        format: no_format(),
-        word: 0,
-    }
-}
-
-fn no_rx() -> Rx
-    ensures { result ≡ no_rx }
-{
-    Rx {
-        format: no_format(),
-        value: 0,
-        position: -128,
-        parity: false,
-        error: 0,
-        next: Due::Never,
-    }
-}
-
-fn loaded_tag(l: Loaded) -> u64
-    ensures { result ≡ loaded_tag l }
-{
-    match l {
-        Loaded::Nothing => 0,
-        Loaded::Next(_) => 1,
-    }
-}
-
-fn loaded_character(l: Loaded) -> Character
-    ensures { result ≡ loaded_character l }
-{
-    match l {
-        Loaded::Nothing => no_character(),
-        Loaded::Next(k) => k,
-    }
-}
-
-fn tx_tag(t: Tx) -> u64
-    ensures { result ≡ tx_tag t }
-{
-    match t {
-        Tx::Off => 0,
-        Tx::Blocked { character: _ } => 1,
-        Tx::Mark { next: _ } => 2,
-        Tx::Start {
-            character: _,
-            next: _,
-        } => 3,
-        Tx::Data {
-            character: _,
-            cell: _,
-            next: _,
-        } => 4,
-        Tx::Tail { loaded: _, next: _ } => 5,
-    }
-}
-
-fn tx_character(t: Tx) -> Character
-    ensures { result ≡ tx_character t }
-{
-    match t {
-        Tx::Off => no_character(),
-        Tx::Blocked { character } => character,
-        Tx::Mark { next: _ } => no_character(),
-        Tx::Start { character, next: _ } => character,
+    let off = Sender {
+        tag: 0,
+        character: NO_CHARACTER,
+        cell: 0,
+        loaded: 0,
+    };
+    match tx {
+        Tx::Off => off,
+        Tx::Blocked { character } => Sender {
+            tag: 1,
+            character,
+            ..off
+        },
+        Tx::Mark { .. } => Sender { tag: 2, ..off },
+        Tx::Start { character, .. } => Sender {
+            tag: 3,
+            character,
+            ..off
+        },
         Tx::Data {
             character,
-            cell: _,
-            next: _,
-        } => character,
-        Tx::Tail { loaded, next: _ } => loaded_character(loaded),
-    }
-}
-
-fn tx_cell(t: Tx) -> u64
-    ensures { result ≡ tx_cell t }
-{
-    match t {
-        Tx::Off => 0,
-        Tx::Blocked { character: _ } => 0,
-        Tx::Mark { next: _ } => 0,
-        Tx::Start {
-            character: _,
-            next: _,
-        } => 0,
-        Tx::Data {
-            character: _,
             cell,
-            next: _,
-        } => cell as u64,
-        Tx::Tail { loaded: _, next: _ } => 0,
+            ..
+        } => Sender {
+            tag: 4,
+            character,
+            cell: u64::from(cell),
+            ..off
+        },
+        Tx::Tail { loaded, .. } => Sender {
+            tag: 5,
+            character: loaded.unwrap_or(NO_CHARACTER),
+            loaded: tag(loaded),
+            ..off
+        },
     }
 }
 
-fn tx_loaded(t: Tx) -> u64
-    ensures { result ≡ tx_loaded t }
+fn tx_words(tx: Tx) -> [u64; 12]
+    ensures { result ≡ tx_list tx }
 {
-    match t {
-        Tx::Off => 0,
-        Tx::Blocked { character: _ } => 0,
-        Tx::Mark { next: _ } => 0,
-        Tx::Start {
-            character: _,
-            next: _,
-        } => 0,
-        Tx::Data {
-            character: _,
-            cell: _,
-            next: _,
-        } => 0,
-        Tx::Tail { loaded, next: _ } => loaded_tag(loaded),
-    }
-}
-
-fn tx_words(t: Tx) -> [u64; 12]
-    ensures { result ≡ tx_list t }
-{
-    let character = tx_character(t);
-    let format = format_words(character.format);
-    let next = t.next();
+    let sender = sender_of(tx);
+    let format = format_words(sender.character.format);
+    let due = number_words(tx.next().map(|n| u64::from(n)));
     [
-        tx_tag(t),
+        sender.tag,
         format[0],
         format[1],
         format[2],
         format[3],
         format[4],
         format[5],
-        character.word as u64,
-        tx_cell(t),
-        due_tag(next),
-        due_half(next),
-        tx_loaded(t),
+        u64::from(sender.character.word),
+        sender.cell,
+        due[0],
+        due[1],
+        sender.loaded,
     ]
 }
 
-fn position_number(rx: Rx) -> u64
-    ensures { result ≡ position_number rx.position }
+// As a number for C: itself plus 128.
+fn position_number(position: i8) -> u64
+    ensures { result ≡ position_number position }
 {
-    let position = rx.position;
-    if position >= 0 {
-        return 128 + position as u64;
-    }
-    127 - (-1 - position) as u64
+    (i64::from(position) + 128) as u64
 }
 
-fn rx_tag(x: Receiver) -> u64
-    ensures { result ≡ rx_tag x }
-{
-    match x {
-        Receiver::Idle => 0,
-        Receiver::Busy(_) => 1,
-    }
-}
-
-fn rx_word(x: Receiver) -> Rx
-    ensures { result ≡ rx_word x }
-{
-    match x {
-        Receiver::Idle => no_rx(),
-        Receiver::Busy(rx) => rx,
-    }
-}
-
-fn rx_words(x: Receiver) -> [u64; 13]
+fn rx_words(x: Option<Rx>) -> [u64; 13]
     ensures { result ≡ rx_list x }
 {
-    let rx = rx_word(x);
+    let rx = x.unwrap_or(NO_RX);
     let format = format_words(rx.format);
-    let next = rx.next;
+    let due = number_words(rx.next.map(|n| u64::from(n)));
     [
-        rx_tag(x),
+        tag(x),
         format[0],
         format[1],
         format[2],
         format[3],
         format[4],
         format[5],
-        rx.value as u64,
-        position_number(rx),
-        bit(rx.parity),
-        rx.error as u64,
-        due_tag(next),
-        due_half(next),
+        u64::from(rx.value),
+        position_number(rx.position),
+        u64::from(rx.parity),
+        u64::from(rx.error),
+        due[0],
+        due[1],
     ]
 }
 
@@ -349,16 +233,16 @@ fn register_words(p: Port) -> [u64; 10]
     ensures { result ≡ register_list p }
 {
     [
-        byte(p.spcr),
-        byte(p.smr),
-        byte(p.brr),
-        byte(p.scr),
-        byte(p.tdr),
-        byte(p.ssr),
-        byte(p.rdr),
-        byte(p.semr),
-        byte(p.ircr),
-        byte(p.seen),
+        u64::from(p.spcr),
+        u64::from(p.smr),
+        u64::from(p.brr),
+        u64::from(p.scr),
+        u64::from(p.tdr),
+        u64::from(p.ssr),
+        u64::from(p.rdr),
+        u64::from(p.semr),
+        u64::from(p.ircr),
+        u64::from(p.seen),
     ]
 }
 
@@ -366,46 +250,49 @@ fn power_words(p: Port) -> [u64; 7]
     ensures { result ≡ power_list p }
 {
     [
-        bit(p.module),
-        bit(p.main),
-        bit(p.sub),
-        bit(p.reset_mode),
-        p.half as u64,
-        bit(p.high),
-        bit(p.edge),
+        u64::from(p.module),
+        u64::from(p.main),
+        u64::from(p.sub),
+        u64::from(p.reset_mode),
+        u64::from(p.half),
+        u64::from(p.high),
+        u64::from(p.edge),
     ]
 }
 
 fn line_words(p: Port) -> [u64; 9]
     ensures { result ≡ line_list p }
 {
-    let next = p.sync_next;
+    let due = number_words(p.sync_next.map(|n| u64::from(n)));
     [
-        bit(p.uart),
-        p.bit_start as u64,
-        bit(p.input),
-        bit(p.input_clock),
-        bit(p.sck),
-        due_tag(next),
-        due_half(next),
+        u64::from(p.uart),
+        u64::from(p.bit_start),
+        u64::from(p.input),
+        u64::from(p.input_clock),
+        u64::from(p.sck),
+        due[0],
+        due[1],
         p.transmitted,
         p.received,
     ]
 }
 
 // ---- numbers as a port
-fn due_in(s: &[u64]) -> Due
-    requires { fits due_max s.now ≡ true }
-    ensures { result ≡ due_in s.now }
+// Each of these reads a part of the array, whose numbers fit the places of that part: as a type that would be one for each part.
+// One for a `u32` and one for a byte: with one for both, a conversion would be tested that cannot fail.
+#[tactic(auto, using(crate::proofs::Fits::placed), unfolding(crate::specs::State::number_in))]
+fn due_in(s: &[u64]) -> Option<u32>
+    requires sized { length s.now ≡ 2 }
+    requires fits { fits due_max s.now ≡ true }
+    ensures { result ≡ number_in s.now }
 {
-    if s[0] != 0 {
-        return Due::At(s[1] as u32);
-    }
-    Due::Never
+    if s[0] != 0 { Some(s[1] as u32) } else { None }
 }
 
+#[tactic(auto, using(crate::proofs::Fits::placed), unfolding(crate::specs::State::format_in))]
 fn format_in(s: &[u64]) -> Format
-    requires { fits format_max s.now ≡ true }
+    requires sized { length s.now ≡ 6 }
+    requires fits { fits format_max s.now ≡ true }
     ensures { result ≡ format_in s.now }
 {
     Format {
@@ -418,8 +305,10 @@ fn format_in(s: &[u64]) -> Format
     }
 }
 
+#[tactic(auto, using(crate::proofs::Fits::placed), unfolding(crate::specs::State::character_in))]
 fn character_in(s: &[u64]) -> Character
-    requires { fits character_max s.now ≡ true }
+    requires sized { length s.now ≡ 7 }
+    requires fits { fits character_max s.now ≡ true }
     ensures { result ≡ character_in s.now }
 {
     let format = format_in(&s[0..6]);
@@ -429,18 +318,18 @@ fn character_in(s: &[u64]) -> Character
     }
 }
 
-fn holding_in(s: &[u64]) -> Holding
-    requires { fits holding_max s.now ≡ true }
-    ensures { result ≡ holding_in s.now }
+#[tactic(auto, using(crate::proofs::Fits::placed), unfolding(crate::specs::State::number_in))]
+fn holding_in(s: &[u64]) -> Option<u8>
+    requires sized { length s.now ≡ 2 }
+    requires fits { fits holding_max s.now ≡ true }
+    ensures { result ≡ number_in s.now }
 {
-    if s[0] != 0 {
-        return Holding::Byte(s[1] as u8);
-    }
-    Holding::Empty
+    if s[0] != 0 { Some(s[1] as u8) } else { None }
 }
 
-// The variant that a number names, with what it holds.
-fn tx_of(tag: u64, character: Character, cell: u8, next: Due, half: u32, loaded: bool) -> Tx
+// The variant that a number names, with what it holds. The flag and the half are numbers of the array, read before the variant is known.
+#[tactic(auto, unfolding(crate::specs::State::tx_of, crate::specs::State::tail_of))]
+fn tx_of(tag: u64, character: Character, cell: u8, next: Option<u32>, half: u32, loaded: bool) -> Tx
     ensures { result ≡ tx_of tag character cell next half loaded }
 {
     match tag {
@@ -456,27 +345,17 @@ fn tx_of(tag: u64, character: Character, cell: u8, next: Due, half: u32, loaded:
             cell,
             next,
         },
-        _ => tail_of(character, next, loaded),
-    }
-}
-
-fn tail_of(character: Character, next: Due, loaded: bool) -> Tx
-    ensures { result ≡ tail_of character next loaded }
-{
-    if loaded {
-        return Tx::Tail {
-            loaded: Loaded::Next(character),
+        _ => Tx::Tail {
+            loaded: loaded.then_some(character),
             next,
-        };
-    }
-    Tx::Tail {
-        loaded: Loaded::Nothing,
-        next,
+        },
     }
 }
 
+#[tactic(auto, using(crate::proofs::Fits::placed), unfolding(crate::specs::State::tx_in))]
 fn tx_in(s: &[u64]) -> Tx
-    requires { fits tx_max s.now ≡ true }
+    requires sized { length s.now ≡ 12 }
+    requires fits { fits tx_max s.now ≡ true }
     ensures { result ≡ tx_in s.now }
 {
     let character = character_in(&s[1..8]);
@@ -484,18 +363,18 @@ fn tx_in(s: &[u64]) -> Tx
     tx_of(s[0], character, s[8] as u8, next, s[10] as u32, s[11] != 0)
 }
 
+#[tactic(auto, unfolding(crate::specs::State::position_of))]
 fn position_of(n: u64) -> i8
     requires { n ≤ 255 }
     ensures { result ≡ position_of n }
 {
-    if n >= 128 {
-        return (n - 128) as i8;
-    }
-    -1 - (127 - n) as i8
+    (n as i64 - 128) as i8
 }
 
+#[tactic(auto, using(crate::proofs::Fits::placed), unfolding(crate::specs::State::word_in))]
 fn word_in(s: &[u64]) -> Rx
-    requires { fits word_max s.now ≡ true }
+    requires sized { length s.now ≡ 12 }
+    requires fits { fits word_max s.now ≡ true }
     ensures { result ≡ word_in s.now }
 {
     let format = format_in(&s[0..6]);
@@ -511,19 +390,24 @@ fn word_in(s: &[u64]) -> Rx
     }
 }
 
-fn rx_in(s: &[u64]) -> Receiver
-    requires { fits rx_max s.now ≡ true }
+#[tactic(auto, using(crate::proofs::Fits::placed), unfolding(crate::specs::State::rx_in))]
+fn rx_in(s: &[u64]) -> Option<Rx>
+    requires sized { length s.now ≡ 13 }
+    requires fits { fits rx_max s.now ≡ true }
     ensures { result ≡ rx_in s.now }
 {
     if s[0] != 0 {
-        return Receiver::Busy(word_in(&s[1..13]));
+        Some(word_in(&s[1..13]))
+    } else {
+        None
     }
-    Receiver::Idle
 }
 
 // The fields that are enums come with it.
-fn port_of(s: &[u64], holding: Holding, tx: Tx, rx: Receiver, sync_next: Due) -> Port
-    requires { fits port_max s.now ≡ true }
+#[tactic(auto, using(crate::proofs::Fits::placed), unfolding(crate::specs::State::port_of))]
+fn port_of(s: &[u64], holding: Option<u8>, tx: Tx, rx: Option<Rx>, sync_next: Option<u32>) -> Port
+    requires sized { length s.now ≡ 53 }
+    requires fits { fits port_max s.now ≡ true }
     ensures { result ≡ port_of s.now holding tx rx sync_next }
 {
     Port {
@@ -558,8 +442,10 @@ fn port_of(s: &[u64], holding: Holding, tx: Tx, rx: Receiver, sync_next: Due) ->
     }
 }
 
+#[tactic(auto, using(crate::proofs::Fits::placed), unfolding(crate::specs::State::port_in))]
 fn port_in(s: &[u64]) -> Port
-    requires { fits port_max s.now ≡ true }
+    requires sized { length s.now ≡ 53 }
+    requires fits { fits port_max s.now ≡ true }
     ensures { result ≡ port_in s.now }
 {
     let holding = holding_in(&s[17..19]);
@@ -569,7 +455,7 @@ fn port_in(s: &[u64]) -> Port
     port_of(s, holding, tx, rx, sync_next)
 }
 
-// ---- the lent array
+// ---- the lent array: C lends it, so that it is as long as a state is a clause and no type
 // Whether it is a state: as many numbers as there are places, none above its place's greatest.
 fn is_state(s: &[u64]) -> bool
     ensures { result ≡ fits port_max s.now }
@@ -577,15 +463,21 @@ fn is_state(s: &[u64]) -> bool
     if s.len() != STATE {
         return false;
     }
-    let maxima = MAXIMA;
-    let mut i: usize = 0;
-    while i < STATE {
-        if s[i] > maxima[i] {
+    for (n, most) in s.iter().zip(MAXIMA.iter()) {
+        if n > most {
             return false;
         }
-        i += 1;
     }
     true
+}
+
+// The port in the array, if it is a state.
+#[tactic(auto, using(crate::proofs::Fits::fits_length), unfolding(crate::specs::State::decode))]
+fn decode(s: &[u64]) -> Option<Port>
+    ensures value { result ≡ decode s.now }
+    ensures sized { OnSome result (length s.now ≡ length port_max) }
+{
+    if is_state(s) { Some(port_in(s)) } else { None }
 }
 
 // Puts numbers at a place of the array, after those that stand before it.
@@ -593,146 +485,105 @@ fn put(s: &mut [u64], at: usize, numbers: &[u64])
     requires { at + length numbers.now ≤ length s.old }
     ensures { take (at + length numbers.now) s.new ≡ take at s.old ++ numbers.now }
 {
-    let mut i: usize = 0;
-    while i < numbers.len() {
-        s[at + i] = numbers[i];
-        i += 1;
-    }
+    s[at..at + numbers.len()].copy_from_slice(numbers);
 }
 
 // Puts a port's numbers into the array, group by group: the first three groups, and then all.
 fn store_first(s: &mut [u64], p: Port)
     requires { 19 ≤ length s.old }
-    ensures { take 19 s.new ≡ register_list p ++ (power_list p ++ holding_list p.holding) }
+    ensures { take 19 s.new ≡ register_list p ++ (power_list p ++ number_list p.holding) }
 {
-    let holding = p.holding;
     put(s, 0, &register_words(p));
     put(s, 10, &power_words(p));
-    put(s, 17, &holding_words(holding));
+    put(s, 17, &number_words(p.holding.map(|b| u64::from(b))));
 }
 
 fn store(s: &mut [u64], p: Port)
     requires { length s.old ≡ length port_max }
     ensures { s.new ≡ encode p }
 {
-    let tx = p.tx;
-    let rx = p.rx;
     store_first(s, p);
-    put(s, 19, &tx_words(tx));
-    put(s, 31, &rx_words(rx));
+    put(s, 19, &tx_words(p.tx));
+    put(s, 31, &rx_words(p.rx));
     put(s, 44, &line_words(p));
 }
 
 // ---- the functions that capi_c exports
-fn direct(p: Port, kind: u32, a: u32, b: u32) -> Called
-    ensures { answer result ≡ direct (command_of kind a b) p }
-{
-    match kind {
-        1 => p.read(a),
-        2 => p.write(a, b),
-        3 => p.wait(a),
-        4 => p.set_line(a),
-        5 => p.input_pins(a, b),
-        6 => p.set_power(a),
-        _ => p.pass_inside(),
-    }
-}
+// What the functions below answer a refusal by: above every byte.
+const REFUSED: u64 = 256;
+
+// A kind that is none of the table, and an array that is no state that passes the field test.
+const UNKNOWN: u64 = REFUSED + 7;
+
+const NO_STATE: u64 = REFUSED + 8;
 
 // The array after a call, and the call's answer.
-fn call_left(s: &mut [u64], called: Called) -> u64
+fn call_left(s: &mut [u64], port: Port, called: Result<Called, Refusal>) -> u64
     requires { length s.old ≡ length port_max }
-    ensures { lent result s.new ≡ call_left s.old (answer called) }
+    ensures { lent result s.new ≡ call_left s.old (answer port called) }
 {
-    let outcome = called.outcome;
-    match outcome {
-        Outcome::Done(value) => {
-            let port = called.port;
+    match called {
+        Ok(Called { value, port }) => {
             store(s, port);
-            value as u64
+            u64::from(value)
         }
-        Outcome::Refused { refusal, offset: _ } => 256 + refusal.number() as u64,
+        Err(refusal) => REFUSED + u64::from(u8::from(refusal)),
     }
 }
 
-// Makes the direct call of a kind on the port in the array.
+// Makes the direct call of a kind on the port in the array. C has no `Kind`: it gives a number.
+#[tactic(auto, unfolding(crate::specs::Exports::call))]
 pub fn sci3_call(state: &mut [u64], kind: u32, a: u32, b: u32) -> u64
     ensures { lent result state.new ≡ call kind a b state.old }
 {
-    if is_state(state) {
-        let port = port_in(state);
-        if (kind >= 1) & (kind <= 7) {
-            let called = direct(port, kind, a, b);
-            return call_left(state, called);
-        }
-        // the direct call tests 8 itself; a kind without one must not come before it
-        if port.valid() {
-            return 263;
-        }
-    }
-    264
+    let Some(port) = decode(state) else {
+        return NO_STATE;
+    };
+    let Ok(kind) = Kind::try_from(kind) else {
+        // The direct call tests 8 itself; a kind without one must not come before it.
+        return if port.valid() { UNKNOWN } else { NO_STATE };
+    };
+    call_left(state, port, port.direct(kind.command(a, b)))
 }
 
-fn clock_number(clock: Clock) -> u8
-    ensures { result ≡ clock_number clock }
-{
-    match clock {
-        Clock::Free => 0,
-        Clock::Driven(drive) => drive_number(drive),
-    }
-}
-
-fn drive_number(drive: Drive) -> u8
-    ensures { result ≡ drive_number drive }
-{
-    match drive {
-        Drive::Floating => 1,
-        Drive::Low => 2,
-        Drive::High => 3,
-    }
-}
-
+#[tactic(auto, unfolding(crate::specs::Exports::pins_number))]
 fn pins_number(pins: Pins) -> u64
     ensures { result ≡ pins_number pins }
 {
-    let clock = pins.clock;
-    let transmit = pins.transmit;
-    let driven = clock_number(clock) as u64;
-    let level = pins::level_number(transmit) as u64;
-    driven + (4 * level + 16 * bit(pins.receive))
+    let clock = pins.clock.map_or(0, |drive| drive as u64);
+    let level = u64::from(pins::level_number(pins.transmit));
+    clock + (4 * level + 16 * u64::from(pins.receive))
 }
 
 // The pins of the port in the array.
+#[tactic(auto, unfolding(crate::specs::Exports::pins_answer))]
 pub fn sci3_pins(state: &[u64]) -> u64
     ensures { result ≡ pins_answer state.now }
 {
-    if is_state(state) {
-        return pins_number(pins::of(port_in(state)));
-    }
-    264
+    decode(state).map_or(NO_STATE, |port| pins_number(Pins::from(port)))
 }
 
 // Whether the port in the array requests an interrupt.
+#[tactic(auto, unfolding(crate::specs::Exports::interrupt_answer))]
 pub fn sci3_interrupt(state: &[u64]) -> u64
     ensures { result ≡ interrupt_answer state.now }
 {
-    if is_state(state) {
-        return bit(pins::interrupt(port_in(state)));
-    }
-    264
+    decode(state).map_or(NO_STATE, |port| u64::from(pins::interrupt(port)))
 }
 
 // Puts the port that every run begins with into the array.
+#[tactic(auto, unfolding(crate::specs::Exports::fresh_state))]
 pub fn sci3_fresh(state: &mut [u64]) -> u64
     ensures { lent result state.new ≡ fresh_state state.old }
 {
-    if state.len() == STATE {
-        store(state, Port::fresh());
-        return 0;
+    if state.len() != STATE {
+        return NO_STATE;
     }
-    264
+    store(state, Port::default());
+    0
 }
 
-// The array after a run; after refusal 8 it is as it was.
+// The array after a run; after refusal 8 it is as it was. By its number, as C is told it.
 fn put_state(s: &mut [u64], number: u8, port: Port)
     requires { length s.old ≡ length port_max }
     ensures { s.new ≡ cond (eqb number 8) s.old (encode port) }
@@ -744,18 +595,17 @@ fn put_state(s: &mut [u64], number: u8, port: Port)
 
 // Plays a script on the port in the array. The answer is document 01's number, 0 where the script was accepted; told are the offset of the refused
 // command's first byte, else 0, and how many bytes of the log are written.
+#[tactic(auto, unfolding(crate::specs::Exports::played))]
 pub fn sci3_play(state: &mut [u64], script: &[u8], log: &mut [u8], told: &mut [u64; 2]) -> u64
     ensures { playing result told.new state.new log.new ≡ played state.old script.now log.old }
 {
-    if is_state(state) {
-        let run = player::play(port_in(state), script, log);
-        let end = run.end;
-        let number = end.number();
-        let offset = end.offset();
-        put_state(state, number, run.port);
-        *told = [offset as u64, run.used as u64];
-        return number as u64;
-    }
-    *told = [0, 0];
-    8
+    let Some(port) = decode(state) else {
+        *told = [0, 0];
+        return 8;
+    };
+    let run = player::play(port, script, log);
+    let number = run.number();
+    put_state(state, number, run.port);
+    *told = [run.offset() as u64, run.used as u64];
+    u64::from(number)
 }

@@ -1,12 +1,12 @@
-// The commands of a script (document 01, "A script comes in"): what each does, its kind's number, and the table of kinds with the range of each
-// operand. Port, script, player and the exported calls share it.
+// The commands of a script (document 01, "A script comes in"): what each does, its kind and that kind's number, and the table of kinds with the range of
+// each operand. Port, script, player and the exported calls share it.
 #![tactic(auto)]
 
-ghost use Rattle.std.specs.Prelude.{◌≡◌};
-ghost use Rattle.command.specs.Command.{kind, operands_of, command_of};
+ghost use Rattle.std.specs.Prelude.{◌≡◌, Some};
+ghost use Rattle.command.specs.Command.{Decodes, code, kind, operands_of, command_of};
 
 // A command: kinds 1 to 7 with their operands.
-#[derive(Clone, Copy)]
+#[derive(Clone, Copy, Debug, PartialEq, Eq)]
 pub enum Command {
     // Reads a register.
     Read { address: u32 },
@@ -25,64 +25,113 @@ pub enum Command {
 }
 
 impl Command {
-    pub fn kind(self) -> u8
-        ensures { result ≡ kind self }
+    pub fn kind(self) -> Kind
+        ensures { code result ≡ kind self }
     {
         match self {
-            Command::Read { address: _ } => 1,
-            Command::Write {
-                address: _,
-                value: _,
-            } => 2,
-            Command::Wait { halves: _ } => 3,
-            Command::Line { line: _ } => 4,
-            Command::Pins { clock: _, line: _ } => 5,
-            Command::Power { bits: _ } => 6,
-            Command::Inside => 7,
+            Command::Read { .. } => Kind::Read,
+            Command::Write { .. } => Kind::Write,
+            Command::Wait { .. } => Kind::Wait,
+            Command::Line { .. } => Kind::Line,
+            Command::Pins { .. } => Kind::Pins,
+            Command::Power { .. } => Kind::Power,
+            Command::Inside => Kind::Inside,
         }
     }
 }
 
+// What a command begins with, by its number.
+#[derive(Clone, Copy, Debug, PartialEq, Eq)]
+pub enum Kind {
+    Read = 1,
+    Write = 2,
+    Wait = 3,
+    Line = 4,
+    Pins = 5,
+    Power = 6,
+    Inside = 7,
+}
+
+// A number that is no kind's.
+#[derive(Clone, Copy, Debug, PartialEq, Eq)]
+pub struct UnknownKind(pub u32);
+
+impl TryFrom<u32> for Kind {
+    type Error = UnknownKind;
+
+    ghost try_from_gives = { Decodes };
+
+    fn try_from(number: u32) -> Result<Self, UnknownKind> {
+        match number {
+            1 => Ok(Kind::Read),
+            2 => Ok(Kind::Write),
+            3 => Ok(Kind::Wait),
+            4 => Ok(Kind::Line),
+            5 => Ok(Kind::Pins),
+            6 => Ok(Kind::Power),
+            7 => Ok(Kind::Inside),
+            _ => Err(UnknownKind(number)),
+        }
+    }
+}
+
+impl From<Kind> for u8 {
+    ghost from_gives = { λ k n. n ≡ code k };
+
+    fn from(kind: Kind) -> u8 {
+        kind as u8
+    }
+}
+
 // The operands of a kind, by their largest values.
-#[derive(Clone, Copy)]
+#[derive(Clone, Copy, Debug, PartialEq, Eq)]
 pub enum Operands {
     None,
     One(u32),
     Two(u32, u32),
-    // The kind is not in the table.
-    Unknown,
 }
 
-// The table of kinds.
-pub fn operands_of(kind: u32) -> Operands
-    ensures { result ≡ operands_of kind }
-{
-    match kind {
-        1 => Operands::One(65535),
-        2 => Operands::Two(65535, 255),
-        3 => Operands::One(65535),
-        4 => Operands::One(1),
-        5 => Operands::Two(1, 1),
-        6 => Operands::One(15),
-        7 => Operands::None,
-        _ => Operands::Unknown,
+impl Kind {
+    // The row of the table of kinds.
+    pub fn operands(self) -> Operands
+        ensures { Some result ≡ operands_of (code self) }
+    {
+        match self {
+            Kind::Read => Operands::One(65535),
+            Kind::Write => Operands::Two(65535, 255),
+            Kind::Wait => Operands::One(65535),
+            Kind::Line => Operands::One(1),
+            Kind::Pins => Operands::Two(1, 1),
+            Kind::Power => Operands::One(15),
+            Kind::Inside => Operands::None,
+        }
+    }
+
+    // The command of the kind, from its operands.
+    pub fn command(self, a: u32, b: u32) -> Command
+        ensures { result ≡ command_of (code self) a b }
+    {
+        match self {
+            Kind::Read => Command::Read { address: a },
+            Kind::Write => Command::Write {
+                address: a,
+                value: b,
+            },
+            Kind::Wait => Command::Wait { halves: a },
+            Kind::Line => Command::Line { line: a },
+            Kind::Pins => Command::Pins { clock: a, line: b },
+            Kind::Power => Command::Power { bits: a },
+            Kind::Inside => Command::Inside,
+        }
     }
 }
 
-// The command of a kind of the table, from its operands. Callers look the kind up first; one that is not in the table is taken as 7.
+// The command of a kind's number, from its operands. A number that is no kind's is taken as the last.
 pub fn command_of(kind: u32, a: u32, b: u32) -> Command
     ensures { result ≡ command_of kind a b }
 {
-    match kind {
-        1 => Command::Read { address: a },
-        2 => Command::Write {
-            address: a,
-            value: b,
-        },
-        3 => Command::Wait { halves: a },
-        4 => Command::Line { line: a },
-        5 => Command::Pins { clock: a, line: b },
-        6 => Command::Power { bits: a },
-        _ => Command::Inside,
+    match Kind::try_from(kind) {
+        Ok(kind) => kind.command(a, b),
+        Err(_) => Command::Inside,
     }
 }

@@ -2,7 +2,7 @@
 -- A long list costs time, so tests of order stand apart.
 -- Assumes nothing.
 use mathlib.Core.Path.{◌≡◌, sym, ap, ◌∙◌}
-use mathlib.Core.Bool.{Bool, true, false, not, ◌&&◌}
+use mathlib.Core.Bool.{Bool, true, false, not}
 use Prim.Native.Nat.{ℕ}
 use lib.Dec.{eqb}
 use borrow.Author.Tests.{ne_eqb, eq-eqb}
@@ -21,12 +21,5 @@ flag_t r b p q = sym p ∙ q
 
 pub flag_f : (r b : Bool) → r ≡ b → r ≡ false → b ≡ false
 flag_f r b p q = sym p ∙ q
-
--- a conjunction whose first part is known
-pub and_t : (a b z : Bool) → a ≡ true → z ≡ b → z ≡ (a && b)
-and_t a b z h e = e ∙ sym (ap (λ (t : Bool). t && b) h)
-
-pub and_f : (a b : Bool) → a ≡ false → false ≡ (a && b)
-and_f a b h = sym (ap (λ (t : Bool). t && b) h)
 
 pub ruleset choose = (cond_t, cond_f, flag_t, flag_f, has_t, has_f, eq-eqb, ne_eqb, key_f, rules)

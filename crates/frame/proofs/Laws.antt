@@ -4,13 +4,14 @@ use mathlib.Core.Path.{◌≡◌, refl, ap, ◌∙◌}
 use mathlib.Core.Logic.{◌⊎◌, inl, inr}
 use mathlib.Core.Bool.{Bool, true, false, not}
 use Prim.Native.Nat.{ℕ, zero, suc, ◌+◌, ◌*◌, ◌/◌, ◌%◌, ◌^◌, ◌≤◌, ◌<◌}
-use native.Mathlib.Nat.{mod-eq_of_lt, mod-lt, one-mul, lt_of_le_of_lt}
+use native.Mathlib.Nat.{mod-lt}
 use native.Mathlib.Omega.{arith}
 use lib.Dec.{eqb, lit≤, lit<}
-use lib.Pow.{pow_mono, shl_exact, field, mod-mod-pow}
+use lib.Pow.{shl_exact, field, mod-mod-pow}
 use lib.Bits.{bit_and, bit_or, or_shifted_r, and_mask}
 use lib.Count.{ones, ones_step}
 use borrow.Author.Tests.{eqb-true, eq-eqb, not-true, not-false}
+use Rattle.std.specs.Int.{from_bool}
 use Rattle.frame.specs.Frame.{has, differ, one_if}
 
 -- no bit of the mask is set
@@ -27,11 +28,10 @@ pub one_if≤ : (b : Bool) → one_if b ≤ 1
 one_if≤ true = lit≤ tt
 one_if≤ false = lit≤ tt
 
--- a set bit that a shift keeps within 16 bits
-pub one_shl : (n : ℕ) → n ≤ 15 → (1 * 2 ^ n) % 65536 ≡ 2 ^ n
-one_shl n h =
-    ap (λ (x : ℕ). x % 65536) (one-mul (2 ^ n))
-    ∙ mod-eq_of_lt (lt_of_le_of_lt (pow_mono h) (lit< tt))
+-- the library's conversion of a flag
+pub from_bool_is : (b : Bool) → from_bool b ≡ one_if b
+from_bool_is true = refl
+from_bool_is false = refl
 
 -- a number of k bits, with another above it whose shift fits 16 bits
 pub stacked : (j k a b : ℕ) → a < 2 ^ j → b < 2 ^ k → j + k ≤ 16 → bit_or b ((a * 2 ^ k) % 65536) ≡ a * 2 ^ k + b

@@ -5,20 +5,16 @@ use Prim.Native.Nat.{ℕ, ◌+◌, ◌-◌, ◌*◌, ◌/◌, ◌%◌, ◌^◌, 
 use native.Mathlib.Omega.{arith}
 use native.Mathlib.Nat.{mod-lt, lt_of_lt_of_le}
 use mathlib.Core.Bool.{Bool, true, false, cond, ◌&&◌}
-use lib.Dec.{eqb, lit<}
+use lib.Dec.{lit<}
 use lib.Arith.{digits_lt}
 use lib.Pow.{pow_pos, pow_mono, pow-add, ones_lt, shl_exact, shl_lt}
 use lib.Bits.{bit_and, bit_or, and_mask}
 use lib.Count.{ones}
 use Rattle.frame.specs.declared.Format.{Format}
-use Rattle.frame.specs.Frame.{has, differ, one_if, bits, odd_ones, format, stop, word, format_valid, data_of, word_valid}
+use Rattle.frame.specs.Frame.{has, differ, one_if, bits, odd_ones, stop, word, format_valid, data_of}
 use Rattle.frame.proofs.Truth.{by_flag}
 use Rattle.frame.proofs.Laws.{has_one, stacked}
-use Rattle.frame.proofs.Words.{odd_ones_count, parity_bit, word_sum, word_clocked, Shape, shape, good_format}
-
--- both promises of `new` from the first
-pub formed_too : (f : Format) (smr semr : ℕ) → f ≡ format smr semr → (f ≡ format smr semr) × (format_valid f ≡ true)
-formed_too f smr semr e = (e, good_format f smr semr e)
+use Rattle.frame.proofs.Words.{odd_ones_count, parity_bit, word_sum, word_clocked, Shape, shape}
 
 -- the bounds that the code's shifts need
 pub data_fits : (f : Format) → format_valid f ≡ true → f.«data» ≤ 8
@@ -71,7 +67,3 @@ clocked_made f v c = and_mask v 8 ∙ sym (word_clocked f v c)
 
 pub data_made : (f : Format) (w M : ℕ) → f.synchronous ≡ false → M ≡ 2 ^ f.«data» - 1 → bit_and (w / 2) M ≡ data_of f w
 data_made f w M c e = ap (bit_and (w / 2)) e ∙ and_mask (w / 2) f.«data» ∙ sym (ap (λ (b : Bool). cond b w (w / 2 % 2 ^ f.«data»)) c)
-
-pub valid_made : (f : Format) (w r v : ℕ) → r ≡ word f v → v ≡ data_of f w → eqb r w ≡ word_valid f w
-unfolding word_valid
-valid_made f w r v e h = ap (λ (x : ℕ). eqb x w) (e ∙ ap (word f) h)

@@ -4,7 +4,7 @@
 ghost use Rattle.std.specs.Prelude.{◌≡◌, true, cond, ◌&&◌, ◌+◌, ◌≤◌, ◌-◌, ◌^◌};
 ghost use Rattle.frame.specs.Frame.{has, one_if, format, stop, cells, word, format_valid, data_of, word_valid};
 
-#[derive(Clone, Copy)]
+#[derive(Clone, Copy, Debug, PartialEq, Eq)]
 pub struct Format {
     pub synchronous: bool,
     pub data: u8,
@@ -41,14 +41,6 @@ fn cell_length(semr: u8) -> u32
     if semr & 8 != 0 { 16 } else { 32 }
 }
 
-// A flag as a number.
-fn one_if(b: bool) -> u16
-    ensures value { result ≡ one_if b }
-    ensures small { result ≤ 1 }
-{
-    if b { 1 } else { 0 }
-}
-
 // A number whose n low bits are set.
 fn low_ones(n: u8) -> u16
     requires { n ≤ 8 }
@@ -59,6 +51,7 @@ fn low_ones(n: u8) -> u16
 
 impl Format {
     // The format that SMR and SEMR give.
+    #[tactic(auto, using(crate::proofs::Words::good_format), unfolding(crate::specs::Frame::format))]
     pub fn new(smr: u8, semr: u8) -> Self
         ensures value { result ≡ format smr semr }
         ensures formed { format_valid result ≡ true }
@@ -85,14 +78,14 @@ impl Format {
         ensures value { result ≡ stop self }
         ensures small { result ≤ self.«data» + 2 }
     {
-        1 + self.data as u32 + one_if(self.parity) as u32
+        1 + u32::from(self.data) + u32::from(self.parity)
     }
 
     // The number of cells.
     pub fn cells(self) -> u32
         ensures { result ≡ cells self }
     {
-        self.stop() + self.stops as u32
+        self.stop() + u32::from(self.stops)
     }
 
     // The word of a value. A format that no registers give has none: 0.
@@ -100,24 +93,26 @@ impl Format {
         ensures { result ≡ cond (format_valid self) (word self value) 0 }
     {
         if self.valid() {
-            self.word_of(value as u16)
+            self.word_of(u16::from(value))
         } else {
             0
         }
     }
 
     // Whether some registers give this format.
+    #[tactic(auto, unfolding(crate::specs::Frame::format_valid))]
     pub fn valid(self) -> bool
         ensures { result ≡ format_valid self }
     {
-        let data = (self.data == 5) | (self.data == 7) | (self.data == 8);
-        let stops = (self.stops == 1) | (self.stops == 2);
-        let half_bit = (self.half_bit == 16) | (self.half_bit == 32);
+        let data = matches!(self.data, 5 | 7 | 8);
+        let stops = matches!(self.stops, 1 | 2);
+        let half_bit = matches!(self.half_bit, 16 | 32);
         let clocked = !self.synchronous | (self.data == 8) & !self.parity;
         data & stops & half_bit & clocked
     }
 
     // Whether this is a format that registers give, and the word one that a value gives in it.
+    #[tactic(auto, unfolding(crate::specs::Frame::word_valid))]
     pub fn holds(self, word: u16) -> bool
         ensures { result ≡ (format_valid self && word_valid self word) }
     {
@@ -129,6 +124,7 @@ impl Format {
     }
 
     // The word of a value, in a format that registers give. Without a parity cell its bit is 0, and the stops stand in its place.
+    #[tactic(auto, using(crate::proofs::Shifts::data_fits, crate::proofs::Shifts::stops_fit))]
     fn word_of(self, value: u16) -> u16
         requires { format_valid self ≡ true }
         ensures { result ≡ word self value }
@@ -137,12 +133,13 @@ impl Format {
             return value & 0xff;
         }
         let bits = value & low_ones(self.data);
-        let odd = u16::count_ones(bits) & 1 != 0;
-        let parity = one_if(self.parity & (odd ^ self.odd));
+        let odd = bits.count_ones() & 1 != 0;
+        let parity = u16::from(self.parity & (odd ^ self.odd));
         bits << 1 | parity << (self.data + 1) | low_ones(self.stops) << self.stop()
     }
 
     // The value in a word.
+    #[tactic(auto, using(crate::proofs::Shifts::data_fits))]
     fn data_of(self, word: u16) -> u16
         requires { format_valid self ≡ true }
         ensures { result ≡ data_of self word }

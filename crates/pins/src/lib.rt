@@ -7,85 +7,75 @@ ghost use Rattle.pins.specs.Pins.{transmit_level, clock_level, clock_drive, pins
 use frame::Format;
 use port::Port;
 
-// signals.rs: how a pin is driven.
-#[derive(Clone, Copy)]
+// signals.rs: how a pin is driven. The numbers are those of the C interface.
+#[derive(Clone, Copy, Debug, PartialEq, Eq)]
 pub enum Drive {
-    Floating,
-    Low,
-    High,
+    Floating = 1,
+    Low = 2,
+    High = 3,
 }
 
-// The clock pin: not the port's, or as the port drives it.
-#[derive(Clone, Copy)]
-pub enum Clock {
-    Free,
-    Driven(Drive),
-}
-
-// The transmit pin: not driven, or at a level.
-#[derive(Clone, Copy)]
-pub enum Transmit {
-    Released,
-    Level(bool),
-}
-
-#[derive(Clone, Copy)]
+// The clock pin, where it is the port's; the transmit pin's level, where it is driven; whether the receive pin is used.
+#[derive(Clone, Copy, Debug, PartialEq, Eq)]
 pub struct Pins {
-    pub clock: Clock,
-    pub transmit: Transmit,
+    pub clock: Option<Drive>,
+    pub transmit: Option<bool>,
     pub receive: bool,
 }
 
-fn transmit_level(port: Port) -> Transmit
+#[tactic(auto, unfolding(crate::specs::Pins::transmit_level))]
+fn transmit_level(port: Port) -> Option<bool>
     ensures { result ≡ transmit_level port }
 {
     if port.spcr & 0x10 != 0 {
-        return Transmit::Level(port.uart ^ (port.spcr & 2 != 0));
+        Some(port.uart ^ (port.spcr & 2 != 0))
+    } else {
+        None
     }
-    Transmit::Released
 }
 
 // In start-stop form high in the second half of each cell.
+#[tactic(auto, using(crate::proofs::Laws::spans))]
 fn clock_level(port: Port) -> bool
     ensures { result ≡ clock_level port }
 {
     if port.smr & 0x80 != 0 {
         return port.sck;
     }
-    let format = Format::new(port.smr, port.semr);
-    let span = format.half_bit;
+    let span = Format::new(port.smr, port.semr).half_bit;
     port.half % span >= span / 2
 }
 
-fn clock_drive(port: Port) -> Clock
+fn clock_drive(port: Port) -> Option<Drive>
     ensures { result ≡ clock_drive port }
 {
     if port.scr & 2 != 0 {
-        return Clock::Driven(Drive::Floating);
+        Some(Drive::Floating)
+    } else if (port.scr & 1 == 0) & (port.smr & 0x80 == 0) {
+        None
+    } else if clock_level(port) {
+        Some(Drive::High)
+    } else {
+        Some(Drive::Low)
     }
-    if (port.scr & 1 != 0) | (port.smr & 0x80 != 0) {
-        if clock_level(port) {
-            return Clock::Driven(Drive::High);
-        }
-        return Clock::Driven(Drive::Low);
-    }
-    Clock::Free
 }
 
 // The pins that the port drives or uses. The clock drive just after clocked output ends is the part that document 01 leaves free.
-pub fn of(port: Port) -> Pins
-    ensures { result ≡ pins port }
-{
-    let clock = clock_drive(port);
-    let transmit = transmit_level(port);
-    Pins {
-        clock,
-        transmit,
-        receive: port.scr & 0x10 != 0,
+impl From<Port> for Pins {
+    ghost from_gives = { λ port r. r ≡ pins port };
+
+    #[tactic(auto, unfolding(crate::specs::Pins::pins))]
+    fn from(port: Port) -> Self {
+        Self {
+            clock: clock_drive(port),
+            transmit: transmit_level(port),
+            receive: port.scr & 0x10 != 0,
+        }
     }
 }
 
 // The interrupt request.
+#[tactic(auto, unfolding(crate::specs::Pins::interrupt))]
 pub fn interrupt(port: Port) -> bool
     ensures { result ≡ interrupt port }
 {
@@ -95,12 +85,9 @@ pub fn interrupt(port: Port) -> bool
                 | ((port.ssr & 4 != 0) & (port.scr & 4 != 0))))
 }
 
-// Document 01's transmit level: 0, 1, or 2 when not driven.
-pub fn level_number(transmit: Transmit) -> u8
+// Document 01's transmit level: 0, 1, or 2 when not driven. No `From`: both types are the library's.
+pub fn level_number(transmit: Option<bool>) -> u8
     ensures { result ≡ level_number transmit }
 {
-    let Transmit::Level(high) = transmit else {
-        return 2;
-    };
-    if high { 1 } else { 0 }
+    transmit.map_or(2, |high| u8::from(high))
 }

@@ -1,7 +1,7 @@
 -- Document 01, "A script comes in": what playing a script on a port leaves. What playing is, is said once for all players (machine's Machine.antt): here is
 -- what is this player's own, the record of a command, and the direct call (port's Calls.antt) that it makes.
 -- Assumes nothing.
-use Rattle.std.specs.Prelude.{ℕ, cond, List, [], ◌∷◌}
+use Rattle.std.specs.Prelude.{ℕ, cond, List, [], ◌∷◌, Result, Ok, Err}
 use Rattle.frame.specs.Frame.{one_if}
 use Rattle.command.specs.declared.Command.{Command}
 use Rattle.command.specs.Command.{kind}
@@ -14,8 +14,7 @@ use Rattle.script.specs.Items.{script_items}
 use Rattle.machine.specs.Machine.{Item, Act, acts, refuses, Run, ended, play_items}
 use Rattle.player.specs.declared.Reason.{Reason}
 use Rattle.player.specs.declared.Reason.TheVariants.{Unread, Call, Full}
-use Rattle.player.specs.declared.End.{End}
-use Rattle.player.specs.declared.End.TheVariants.{Accepted, Refused}
+use Rattle.player.specs.declared.Refused.{Refused}
 use Rattle.player.specs.declared.Played.{Played}
 
 -- "After each command five bytes are appended to the lent log: kind, answer (the value read, else 0), SSR, transmit level (0, 1, or 2 when not
@@ -51,13 +50,13 @@ reason_number (Unread fault) = fault_number fault
 reason_number (Call refusal) = number refusal
 reason_number Full = 9
 
-abbrev pub end_number : End → ℕ
-end_number Accepted = 0
-end_number (Refused reason offset) = reason_number reason
+abbrev pub end_number : Result (Unit {0}) Refused → ℕ
+end_number (Ok accepted) = 0
+end_number (Err at) = reason_number at.reason
 
-abbrev pub end_offset : End → ℕ
-end_offset Accepted = 0
-end_offset (Refused reason offset) = offset
+abbrev pub end_offset : Result (Unit {0}) Refused → ℕ
+end_offset (Ok accepted) = 0
+end_offset (Err at) = at.offset
 
 abbrev pub ran : Played → List ℕ → Run Port
 ran r log = record { state = r.port; number = end_number r.end; offset = end_offset r.end; used = r.used; log = log }

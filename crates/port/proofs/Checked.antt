@@ -1,5 +1,6 @@
 -- What the field test says of a port: it is ready for every step. And what test 4 of kind 5 says: a clock edge that counts finds room in the half count.
 -- Assumes nothing.
+use Rattle.std.specs.Prelude.{Option, None, Some}
 use Rattle.std.proofs.Common.{◌≡◌, ℕ, ◌+◌, ◌<◌, ◌≤◌, Bool, true, false, cond, ◌&&◌, ◌||◌, eqb, ltb, leb, sym, refl, ap, ◌∙◌, arith, ltb-true, leb-true}
 use mathlib.Core.Path.{subst⁻¹}
 use mathlib.Core.Bool.{false≢true}
@@ -8,13 +9,7 @@ use Rattle.frame.specs.Frame.{differ, stop, format_valid, word_valid}
 use Rattle.frame.proofs.Truth.{and_left, and_right}
 use Rattle.port.specs.declared.Port.{Port}
 use Rattle.shift.specs.declared.Character.{Character}
-use Rattle.shift.specs.declared.Due.{Due}
-use Rattle.shift.specs.declared.Due.TheVariants.{Never, At}
-use Rattle.shift.specs.declared.Loaded.{Loaded}
-use Rattle.shift.specs.declared.Loaded.TheVariants.{Nothing, Next}
 use Rattle.shift.specs.declared.Rx.{Rx}
-use Rattle.shift.specs.declared.Receiver.{Receiver}
-use Rattle.shift.specs.declared.Receiver.TheVariants.{Idle, Busy}
 use Rattle.shift.specs.declared.Tx.{Tx}
 use Rattle.shift.specs.declared.Tx.TheVariants.{Off, Blocked, Mark, Start, Data, Tail}
 use Rattle.port.specs.Fields.{with_input, with_input_clock}
@@ -29,17 +24,17 @@ use Rattle.port.proofs.Steps.{valid_bounded}
 use Rattle.branches.proofs.Branches.{both_arms}
 
 -- ---- a due half only with a start-stop word
-valid_plain : (d : Due) (s : Bool) (half : ℕ) → due_by d s half ≡ true → Plain d s
-valid_plain Never s half e = tt
-valid_plain (At n) true half e = absurd (false≢true e)
-valid_plain (At n) false half e = refl
+valid_plain : (d : Option ℕ) (s : Bool) (half : ℕ) → due_by d s half ≡ true → Plain d s
+valid_plain None s half e = tt
+valid_plain (Some n) true half e = absurd (false≢true e)
+valid_plain (Some n) false half e = refl
 
-valid_below : (d : Due) (f : Format) (cell half : ℕ) → cell_valid f cell ≡ true → due_by d f.synchronous half ≡ true → Below d f cell
-valid_below Never f cell half c e =
+valid_below : (d : Option ℕ) (f : Format) (cell half : ℕ) → cell_valid f cell ≡ true → due_by d f.synchronous half ≡ true → Below d f cell
+valid_below None f cell half c e =
     let low : cell < 8 = ltb-true cell 8 (ap (λ (b : Bool). ltb cell (cond b 8 (stop f))) (sym e) ∙ c) in
     omega arith
-valid_below (At n) f cell half c e =
-    let plain : f.synchronous ≡ false = valid_plain (At n) f.synchronous half e in
+valid_below (Some n) f cell half c e =
+    let plain : f.synchronous ≡ false = valid_plain (Some n) f.synchronous half e in
     ltb-true cell (stop f) (ap (λ (b : Bool). ltb cell (cond b 8 (stop f))) (sym plain) ∙ c)
 
 -- ---- the parts of the field test
@@ -47,9 +42,9 @@ valid_character : (k : Character) → character_valid k ≡ true → Bounded k.f
 unfolding character_valid
 valid_character k e = valid_bounded k.format (and_left (format_valid k.format) (word_valid k.format k.word) e)
 
-valid_loaded : (l : Loaded) → loaded_valid l ≡ true → LoadedBounded l
-valid_loaded Nothing e = tt
-valid_loaded (Next k) e = valid_character k e
+valid_loaded : (l : Option Character) → loaded_valid l ≡ true → LoadedBounded l
+valid_loaded None e = tt
+valid_loaded (Some k) e = valid_character k e
 
 pub valid_sendable : (t : Tx) (half : ℕ) → tx_valid t half ≡ true → Sendable t
 valid_sendable Off half e = tt
@@ -77,9 +72,9 @@ valid_placed r half e =
       plain = valid_plain r.next r.format.synchronous half (and_right x d (and_right z (x && d) zxd));
     }
 
-pub valid_in : (x : Receiver) (half : ℕ) → rx_valid x half ≡ true → PlacedIn x
-valid_in Idle half e = tt
-valid_in (Busy r) half e = valid_placed r half e
+pub valid_in : (x : Option Rx) (half : ℕ) → rx_valid x half ≡ true → PlacedIn x
+valid_in None half e = tt
+valid_in (Some r) half e = valid_placed r half e
 
 pub valid_ready : (p : Port) → valid p ≡ true → Ready p.half p
 unfolding valid
@@ -97,10 +92,6 @@ valid_ready p e =
       sendable = valid_sendable p.tx p.half (and_left c (d && f) cdf);
     }
 
--- the same where a call gave the test's flag
-pub flag_ready : (r : Bool) (p : Port) → r ≡ valid p → r ≡ true → Ready p.half p
-flag_ready r p e h = valid_ready p (sym e ∙ h)
-
 -- ---- kind 5
 -- the new line and the new clock level are no part of whether an edge counts
 pub edge_counts_kept : (clock line : Bool) (p : Port) → edge_counts clock (with_input_clock (receive_input line p) clock) ≡ edge_counts clock p
@@ -109,9 +100,9 @@ edge_counts_kept clock line p = both_arms Same (differ line p.input) _ _ (go p.r
   Same : Port → Type 0
   Same q = edge_counts clock (with_input_clock q clock) ≡ edge_counts clock p
 
-  go : (x : Receiver) → Same (arm_receive_on x (with_input p line))
-  go Idle = both_arms Same (arms (with_input p line)) _ _ refl refl
-  go (Busy x) = refl
+  go : (x : Option Rx) → Same (arm_receive_on x (with_input p line))
+  go None = both_arms Same (arms (with_input p line)) _ _ refl refl
+  go (Some x) = refl
 
 -- nor do they move the half count
 pub receive_input_half : (line : Bool) (p : Port) → (receive_input line p).half ≡ p.half
@@ -120,9 +111,9 @@ receive_input_half line p = both_arms Same (differ line p.input) _ _ (go p.rx) r
   Same : Port → Type 0
   Same q = q.half ≡ p.half
 
-  go : (x : Receiver) → Same (arm_receive_on x (with_input p line))
-  go Idle = both_arms Same (arms (with_input p line)) _ _ refl refl
-  go (Busy x) = refl
+  go : (x : Option Rx) → Same (arm_receive_on x (with_input p line))
+  go None = both_arms Same (arms (with_input p line)) _ _ refl refl
+  go (Some x) = refl
 
 -- the same of a call's result, and of a test that another call made of it
 pub pins_room : (r p : Port) (line clock f : Bool) → r ≡ receive_input line p → (edge_counts clock p ≡ true → p.half < limit)

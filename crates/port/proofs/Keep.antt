@@ -1,6 +1,7 @@
 -- The steps keep a port ready: its half count within the limit, a received word in its place, formats and a sent word's cell within the frame's bounds.
 -- A law `keep-f` is about the step f at a half n; `f-ready` about a call's result, known by the equation that its contract gives.
 -- Assumes nothing.
+use Rattle.std.specs.Prelude.{Option, None, Some, is_some}
 use Rattle.std.proofs.Common.{◌≡◌, ℕ, zero, suc, ◌+◌, ◌*◌, ◌<◌, ◌≤◌, Bool, true, false, cond, not, ◌&&◌, ◌||◌, eqb, ltb, leb, ℤ, pos, negsuc, sym, refl, ap, ◌∙◌, subst, zero-le, arith, lit≤, rules, ltb-true, eqb-true, le-leb, leb-true}
 use mathlib.Core.Path.{subst⁻¹}
 use mathlib.Core.Bool.{false≢true}
@@ -13,15 +14,7 @@ use Rattle.branches.proofs.Branches.{by_cond, both_arms, or_right}
 use Rattle.frame.proofs.Words.{format_good}
 use Rattle.port.specs.declared.Port.{Port}
 use Rattle.shift.specs.declared.Character.{Character}
-use Rattle.shift.specs.declared.Due.{Due}
-use Rattle.shift.specs.declared.Due.TheVariants.{Never, At}
-use Rattle.shift.specs.declared.Holding.{Holding}
-use Rattle.shift.specs.declared.Holding.TheVariants.{Empty, Byte}
-use Rattle.shift.specs.declared.Loaded.{Loaded}
-use Rattle.shift.specs.declared.Loaded.TheVariants.{Nothing, Next}
 use Rattle.shift.specs.declared.Rx.{Rx}
-use Rattle.shift.specs.declared.Receiver.{Receiver}
-use Rattle.shift.specs.declared.Receiver.TheVariants.{Idle, Busy}
 use Rattle.shift.specs.declared.Sampled.{Sampled}
 use Rattle.shift.specs.declared.Sampled.TheVariants.{Dropped, Onward, Whole}
 use Rattle.shift.specs.declared.Tx.{Tx}
@@ -31,7 +24,7 @@ use Rattle.port.specs.Baud.{format_of, counted, edge_counted, next_fall, boundar
 use Rattle.shift.specs.Receiver.{next_position, armed, sample_at, sample, last_bit, bit_taken, clocked_word}
 use Rattle.shift.specs.Due.{due_now}
 use Rattle.port.specs.Receiver.{input_level, error_free, arms, arm_receive_on, arm_receive, complete_receive, after_sample, advance_rx_on, advance_rx}
-use Rattle.shift.specs.Sender.{level, holds, tx_next}
+use Rattle.shift.specs.Sender.{level, tx_next}
 use Rattle.port.specs.Sender.{loaded_on, preloaded_on, loaded, preloaded, drive, begin, start_at, start_loaded, try_start_on, try_start, one_sent, finish_tail, tailed, next_cell, send_step_on, advance_tx}
 use Rattle.port.specs.Clocked.{with_clock, refresh_sync_clock, take_bit, receive_bit_on, receive_bit, tail_ends_on, tail_ends, bit_out, shift_out_on, shift_out, sync_edge}
 use Rattle.port.specs.Half.{process_basic, clocked_edge}
@@ -57,7 +50,7 @@ module _ {n : ℕ} {p : Port} (r : Ready n p) where
   pub keep_tx : (t : Tx) → Sendable t → Ready n (with_tx p t)
   keep_tx t s = record { half≡ = r.half≡; half≤ = r.half≤; placed = r.placed; sendable = s }
 
-  pub keep_rx : (x : Receiver) → PlacedIn x → Ready n (with_rx p x)
+  pub keep_rx : (x : Option Rx) → PlacedIn x → Ready n (with_rx p x)
   keep_rx x s = record { half≡ = r.half≡; half≤ = r.half≤; placed = s; sendable = r.sendable }
 
   -- a port with the same half count, receiver and sender
@@ -79,36 +72,36 @@ module _ {n : ℕ} {p : Port} (r : Ready n p) where
   pub keep_preloaded : Ready n (preloaded p)
   unfolding preloaded
   keep_preloaded = go p.holding where
-    go : (h : Holding) → Ready n (preloaded_on h p)
-    go Empty = keep_same _ refl refl refl
-    go (Byte v) = keep_same _ refl refl refl
+    go : (h : Option ℕ) → Ready n (preloaded_on h p)
+    go None = keep_same _ refl refl refl
+    go (Some v) = keep_same _ refl refl refl
 
 pub loaded_bounded : (p : Port) → LoadedBounded (loaded p)
 unfolding loaded
 loaded_bounded p = go p.holding where
-  go : (h : Holding) → LoadedBounded (loaded_on h p)
-  go Empty = tt
-  go (Byte v) = bounded_now p
+  go : (h : Option ℕ) → LoadedBounded (loaded_on h p)
+  go None = tt
+  go (Some v) = bounded_now p
 
 -- ---- the sender
 module _ {n : ℕ} {p : Port} (r : Ready n p) where
   pub keep_begin : (k : Character) → Bounded k.format → Ready n (begin p k)
   unfolding begin
   keep_begin k f =
-      both_arms (Ready n) k.format.synchronous _ _ (keep_tx r (Data k 0 Never) (f, lit≤ tt))
-      (keep_tx (keep_drive r (level k 0)) (Data k 0 (At (p.half + k.format.half_bit))) (f, omega arith))
+      both_arms (Ready n) k.format.synchronous _ _ (keep_tx r (Data k 0 None) (f, lit≤ tt))
+      (keep_tx (keep_drive r (level k 0)) (Data k 0 (Some (p.half + k.format.half_bit))) (f, omega arith))
 
   pub keep_start_at : (k : Character) (next : ℕ) → Bounded k.format → Ready n (start_at p k next)
   unfolding start_at
   keep_start_at k next f = both_arms (Ready n) (eqb next p.half) _ _ (keep_begin k f) (keep_tx r (Start k next) f)
 
-  pub keep_start_loaded : (l : Loaded) → LoadedBounded l → Ready n (start_loaded l p)
-  keep_start_loaded Nothing f = r
-  keep_start_loaded (Next k) f =
+  pub keep_start_loaded : (l : Option Character) → LoadedBounded l → Ready n (start_loaded l p)
+  keep_start_loaded None f = r
+  keep_start_loaded (Some k) f =
       both_arms (Ready n) k.format.synchronous _ _ (keep_begin k f) (keep_start_at k (boundary p k.format.half_bit) f)
 
   -- a word's last cells, with whatever the holding place has
-  pub keep_tailed : (next : Due) → Ready n (tailed p next)
+  pub keep_tailed : (next : Option ℕ) → Ready n (tailed p next)
   keep_tailed next = keep_tx (keep_preloaded r) (Tail (loaded p) next) (loaded_bounded p)
 
 module _ {n : ℕ} {p : Port} (r : Ready n p) where
@@ -117,7 +110,7 @@ module _ {n : ℕ} {p : Port} (r : Ready n p) where
   keep_try_start = go p.tx r.sendable where
     go : (t : Tx) → Sendable t → Ready n (try_start_on t p)
     go Off s =
-        both_arms (Ready n) (has p.scr 0x20 && (holds p.holding && (not (format_of p).synchronous || error_free p))) _ _
+        both_arms (Ready n) (has p.scr 0x20 && (is_some p.holding && (not (format_of p).synchronous || error_free p))) _ _
         (keep_start_loaded (keep_preloaded r) (loaded p) (loaded_bounded p)) r
     go (Blocked k) s = both_arms (Ready n) (error_free p) _ _ (keep_begin r k s) r
     go (Mark next) s = r
@@ -130,14 +123,14 @@ module _ {n : ℕ} {p : Port} (r : Ready n p) where
   unfolding next_cell
   keep_next_cell k cell f h =
       by_cond (Ready n) (eqb cell (stop k.format)) _ _
-      (λ _. keep_tailed (keep_drive r (level k cell)) (At (p.half + k.format.stops * k.format.half_bit)))
-      (λ e. keep_tx (keep_drive r (level k cell)) (Data k cell (At (p.half + k.format.half_bit)))
+      (λ _. keep_tailed (keep_drive r (level k cell)) (Some (p.half + k.format.stops * k.format.half_bit)))
+      (λ e. keep_tx (keep_drive r (level k cell)) (Data k cell (Some (p.half + k.format.half_bit)))
       (f, lt_of_le-ne h (eqb-false cell (stop k.format) e)))
 
 module _ {n : ℕ} {p : Port} (r : Ready n p) where
-  pub keep_finish_tail : (l : Loaded) → LoadedBounded l → Ready n (finish_tail l p)
-  keep_finish_tail Nothing f = keep_try_start (keep_sent r)
-  keep_finish_tail (Next k) f =
+  pub keep_finish_tail : (l : Option Character) → LoadedBounded l → Ready n (finish_tail l p)
+  keep_finish_tail None f = keep_try_start (keep_sent r)
+  keep_finish_tail (Some k) f =
       both_arms (Ready n) (k.format.synchronous && not (error_free p)) _ _ (keep_tx (keep_sent r) (Blocked k) f) (keep_begin (keep_sent r) k f)
 
   -- due: so a word in data is a start-stop one, below its stop cell
@@ -146,8 +139,8 @@ module _ {n : ℕ} {p : Port} (r : Ready n p) where
   keep_due (Blocked k) s e = r
   keep_due (Mark next) s e = keep_try_start (keep_tx r Off tt)
   keep_due (Start k next) s e = keep_begin r k s
-  keep_due (Data k cell Never) s e = absurd (false≢true e)
-  keep_due (Data k cell (At m)) s e = keep_next_cell r k (suc cell) s.0 s.1
+  keep_due (Data k cell None) s e = absurd (false≢true e)
+  keep_due (Data k cell (Some m)) s e = keep_next_cell r k (suc cell) s.0 s.1
   keep_due (Tail l next) s e = keep_finish_tail l s
 
   pub keep_send_step : due_now (tx_next p.tx) p.half ≡ true → Ready n (send_step_on p.tx p)
@@ -212,31 +205,31 @@ module _ {n : ℕ} {p : Port} (r : Ready n p) where
         (and_right (error_free p) (not (format_of p).synchronous && not (input_level p))
         (and_right (has p.scr 0x10) (error_free p && (not (format_of p).synchronous && not (input_level p))) e))
 
-    go : (x : Receiver) → Ready n (arm_receive_on x p)
-    go Idle =
+    go : (x : Option Rx) → Ready n (arm_receive_on x p)
+    go None =
         by_cond (Ready n) (arms p) _ _
-        (λ e. keep_rx r (Busy (armed (format_of p) (next_fall p)))
+        (λ e. keep_rx r (Some (armed (format_of p) (next_fall p)))
         (record { bounded = bounded_now p; place = plain e; plain = not-true (format_of p).synchronous (plain e) }))
         (λ _. r)
-    go (Busy x) = r
+    go (Some x) = r
 
 module _ {n : ℕ} {p : Port} (r : Ready n p) where
   pub keep_after_sample : (s : Sampled) → PlacedBy s → Ready n (after_sample s p)
-  keep_after_sample Dropped h = keep_rx r Idle tt
-  keep_after_sample (Onward x) h = keep_rx r (Busy x) h
-  keep_after_sample (Whole x) h = keep_complete_receive (keep_rx r Idle tt) x
+  keep_after_sample Dropped h = keep_rx r None tt
+  keep_after_sample (Onward x) h = keep_rx r (Some x) h
+  keep_after_sample (Whole x) h = keep_complete_receive (keep_rx r None tt) x
 
   -- only a start-stop word has a due half
-  due_start_stop : (x : Rx) (d : Due) → Plain d x.format.synchronous → due_now d p.half ≡ true → x.format.synchronous ≡ false
-  due_start_stop x Never h e = absurd (false≢true e)
-  due_start_stop x (At m) h e = h
+  due_start_stop : (x : Rx) (d : Option ℕ) → Plain d x.format.synchronous → due_now d p.half ≡ true → x.format.synchronous ≡ false
+  due_start_stop x None h e = absurd (false≢true e)
+  due_start_stop x (Some m) h e = h
 
   pub keep_advance_rx : Ready n (advance_rx p)
   unfolding advance_rx
   keep_advance_rx = go p.rx r.placed where
-    go : (x : Receiver) → PlacedIn x → Ready n (advance_rx_on x p)
-    go Idle h = r
-    go (Busy x) h =
+    go : (x : Option Rx) → PlacedIn x → Ready n (advance_rx_on x p)
+    go None h = r
+    go (Some x) h =
         by_cond (Ready n) (due_now x.next p.half) _ _
         (λ e. keep_after_sample (sample (format_of p) (input_level p) p.half x)
         (sample_placed (format_of p) (input_level p) p.half x (bounded_now p) h (due_start_stop x x.next h.plain e)))
@@ -260,25 +253,25 @@ module _ {n : ℕ} {p : Port} (r : Ready n p) where
   unfolding refresh_sync_clock
   keep_refresh_sync_clock = search (keep_cond, rules) depth 10
 
-  pub keep_clock : (next : Due) (high : Bool) → Ready n (with_clock p next high)
+  pub keep_clock : (next : Option ℕ) (high : Bool) → Ready n (with_clock p next high)
   keep_clock next high = keep_same r (with_clock p next high) refl refl refl
 
   pub keep_take_bit : (x : Rx) → Placed x → x.format.synchronous ≡ true → Ready n (take_bit p x)
   unfolding take_bit
   keep_take_bit x h s =
-      by_cond (Ready n) (last_bit x.position) _ _ (λ _. keep_complete_receive (keep_rx r Idle tt) (bit_taken (input_level p) x))
-      (λ e. keep_rx r (Busy (bit_taken (input_level p) x))
+      by_cond (Ready n) (last_bit x.position) _ _ (λ _. keep_complete_receive (keep_rx r None tt) (bit_taken (input_level p) x))
+      (λ e. keep_rx r (Some (bit_taken (input_level p) x))
       (record { bounded = h.bounded; place = next_bit x.position x.format s h.place e; plain = h.plain }))
 
   pub keep_receive_bit : Ready n (receive_bit p)
   unfolding receive_bit
   keep_receive_bit = both_arms (Ready n) (has p.scr 0x10 && error_free p) _ _ (go p.rx r.placed) r where
-    go : (x : Receiver) → PlacedIn x → Ready n (receive_bit_on x p)
-    go Idle h =
+    go : (x : Option Rx) → PlacedIn x → Ready n (receive_bit_on x p)
+    go None h =
         by_cond (Ready n) (format_of p).synchronous _ _
         (λ s. keep_take_bit (clocked_word (format_of p)) (clocked_placed (format_of p) (bounded_now p) s) s)
         (λ _. r)
-    go (Busy x) h = by_cond (Ready n) x.format.synchronous _ _ (λ s. keep_take_bit x h s) (λ _. r)
+    go (Some x) h = by_cond (Ready n) x.format.synchronous _ _ (λ s. keep_take_bit x h s) (λ _. r)
 
   pub keep_tail_ends : Ready n (tail_ends p)
   unfolding tail_ends
@@ -289,14 +282,14 @@ module _ {n : ℕ} {p : Port} (r : Ready n p) where
     go (Mark next) s = r
     go (Start k next) s = r
     go (Data k cell next) s = r
-    go (Tail l Never) s = keep_finish_tail r l s
-    go (Tail l (At m)) s = r
+    go (Tail l None) s = keep_finish_tail r l s
+    go (Tail l (Some m)) s = r
 
   pub keep_bit_out : (k : Character) (cell : ℕ) → Bounded k.format → cell ≤ 7 → Ready n (bit_out k cell p)
   unfolding bit_out
   keep_bit_out k cell f h =
-      by_cond (Ready n) (eqb cell 7) _ _ (λ _. keep_tailed (keep_drive r (level k cell)) Never)
-      (λ e. keep_tx (keep_drive r (level k cell)) (Data k (suc cell) Never) (f, lt_of_le-ne h (eqb-false cell 7 e)))
+      by_cond (Ready n) (eqb cell 7) _ _ (λ _. keep_tailed (keep_drive r (level k cell)) None)
+      (λ e. keep_tx (keep_drive r (level k cell)) (Data k (suc cell) None) (f, lt_of_le-ne h (eqb-false cell 7 e)))
 
   pub keep_shift_out : Ready n (shift_out p)
   unfolding shift_out
@@ -306,8 +299,8 @@ module _ {n : ℕ} {p : Port} (r : Ready n p) where
     go (Blocked k) s = r
     go (Mark next) s = r
     go (Start k next) s = r
-    go (Data k cell Never) s = keep_bit_out k cell s.0 s.1
-    go (Data k cell (At m)) s = r
+    go (Data k cell None) s = keep_bit_out k cell s.0 s.1
+    go (Data k cell (Some m)) s = r
     go (Tail l next) s = r
 
 module _ {n : ℕ} {p : Port} (r : Ready n p) where
@@ -324,7 +317,7 @@ module _ {n : ℕ} {p : Port} (r : Ready n p) where
   pub keep_clocked_edge : Ready n (clocked_edge p)
   unfolding clocked_edge
   keep_clocked_edge =
-      both_arms (Ready n) (due_now p.sync_next p.half) _ _ (keep_sync_edge (keep_clock r Never (not p.sck)) (not p.sck)) r
+      both_arms (Ready n) (due_now p.sync_next p.half) _ _ (keep_sync_edge (keep_clock r None (not p.sck)) (not p.sck)) r
 
   -- a counted edge, also one of the internal clock, at the next half
   pub keep_edge_counted : (high : Bool) → n < limit → Ready (suc n) (edge_counted p high)
@@ -364,8 +357,8 @@ module _ {n : ℕ} {p : Port} (r : Ready n p) where
     go (Mark next) = r
     go (Start k next) = r
     go (Data k cell next) = r
-    go (Tail Nothing next) = both_arms (Ready n) (holds p.holding) _ _ (keep_tailed r next) r
-    go (Tail (Next k) next) = r
+    go (Tail None next) = both_arms (Ready n) (is_some p.holding) _ _ (keep_tailed r next) r
+    go (Tail (Some k) next) = r
 
 module _ {n : ℕ} {p : Port} (r : Ready n p) where
   pub keep_write_scr : (v : ℕ) → Ready n (write_scr v p)
@@ -438,14 +431,14 @@ load_tail_ready r p e h = result r (load_tail p) e (keep_load_tail h)
 pub receive_input_ready : (r p : Port) (level : Bool) → r ≡ receive_input level p → Ready p.half p → Ready r.half r
 receive_input_ready r p level e h = result r (receive_input level p) e (keep_receive_input h level)
 
-pub with_clock_ready : (r p : Port) (next : Due) (high : Bool) → r ≡ with_clock p next high → Ready p.half p → Ready r.half r
+pub with_clock_ready : (r p : Port) (next : Option ℕ) (high : Bool) → r ≡ with_clock p next high → Ready p.half p → Ready r.half r
 with_clock_ready r p next high e h = result r (with_clock p next high) e (keep_clock h next high)
 
 -- ---- less than ready: where a step asks only for the half count
 half_as : (r q : Port) → r ≡ q → q.half ≤ limit → r.half ≤ limit
 half_as r q e h = subst⁻¹ (λ (x : Port). x.half ≤ limit) e h
 
-pub with_rx_half : (r p : Port) (x : Receiver) → r ≡ with_rx p x → p.half ≤ limit → r.half ≤ limit
+pub with_rx_half : (r p : Port) (x : Option Rx) → r ≡ with_rx p x → p.half ≤ limit → r.half ≤ limit
 with_rx_half r p x e h = half_as r (with_rx p x) e h
 
 pub with_power_half : (r p : Port) (a b c d : Bool) → r ≡ with_power p a b c d → p.half ≤ limit → r.half ≤ limit

@@ -1,6 +1,3 @@
-pub mod Same
-pub mod Clauses
-pub mod Under
 pub mod Steps
 pub mod Keep
 pub mod Checked

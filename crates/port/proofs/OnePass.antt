@@ -1,6 +1,8 @@
 -- A half of the internal clock does its basic work once: what `sync` does on the way to `advance` is what `advance` does anyway.
 -- Nothing is claimed of the external clock; no half passes there.
 -- Assumes nothing.
+use Rattle.std.specs.Option.{option_or}
+use Rattle.std.specs.Prelude.{Option, None, Some, is_none, is_some}
 use Rattle.std.proofs.Common.{◌≡◌, ℕ, zero, suc, ◌+◌, ◌*◌, ◌<◌, ◌≤◌, Bool, true, false, cond, not, ◌&&◌, ◌||◌, eqb, ltb, ℤ, pos, negsuc, sym, refl, ap, ◌∙◌, ap₂, true≢false, arith, ne_eqb}
 use mathlib.Core.Bool.{false≢true}
 use Rattle.frame.specs.declared.Format.{Format}
@@ -9,21 +11,13 @@ use Rattle.branches.proofs.Branches.{by_cond, both_arms, cond_true, cond_false, 
 use borrow.Author.Tests.{not-true}
 use Rattle.frame.proofs.Truth.{and_left, and_right}
 use Rattle.shift.specs.declared.Character.{Character}
-use Rattle.shift.specs.declared.Due.{Due}
-use Rattle.shift.specs.declared.Due.TheVariants.{Never, At}
-use Rattle.shift.specs.declared.Holding.{Holding}
-use Rattle.shift.specs.declared.Holding.TheVariants.{Empty, Byte}
-use Rattle.shift.specs.declared.Loaded.{Loaded}
-use Rattle.shift.specs.declared.Loaded.TheVariants.{Nothing, Next}
 use Rattle.shift.specs.declared.Tx.{Tx}
 use Rattle.shift.specs.declared.Tx.TheVariants.{Off, Blocked, Mark, Start, Data, Tail}
 use Rattle.shift.specs.declared.Rx.{Rx}
-use Rattle.shift.specs.declared.Receiver.{Receiver}
-use Rattle.shift.specs.declared.Receiver.TheVariants.{Idle, Busy}
 use Rattle.shift.specs.declared.Sampled.{Sampled}
 use Rattle.shift.specs.declared.Sampled.TheVariants.{Dropped, Onward, Whole}
-use Rattle.shift.specs.Due.{absent, due_now, due_or}
-use Rattle.shift.specs.Sender.{holds, tx_next, tx_clocked}
+use Rattle.shift.specs.Due.{due_now}
+use Rattle.shift.specs.Sender.{tx_next, tx_clocked}
 use Rattle.shift.specs.Receiver.{sample_at, sample, rx_next, rx_clocked, rx_due_on}
 use Rattle.shift.specs.Private.Ready.{Bounded, LoadedBounded, Sendable, PlacedIn}
 use Rattle.port.specs.declared.Port.{Port}
@@ -51,31 +45,22 @@ pub rx_still : (p : Port) → due_now (rx_next p.rx) p.half ≡ false → advanc
 unfolding advance_rx
 rx_still p h = go p.rx h
   where
-    go : (x : Receiver) → due_now (rx_next x) p.half ≡ false → advance_rx_on x p ≡ p
-    go Idle e = refl
-    go (Busy r) e = cond_false (due_now r.next p.half) _ p e
+    go : (x : Option Rx) → due_now (rx_next x) p.half ≡ false → advance_rx_on x p ≡ p
+    go None e = refl
+    go (Some r) e = cond_false (due_now r.next p.half) _ p e
 
 pub arm_still : (p : Port) → arms_on p.rx p ≡ false → arm_receive p ≡ p
 unfolding arm_receive
 arm_still p h = go p.rx h
   where
-    go : (x : Receiver) → arms_on x p ≡ false → arm_receive_on x p ≡ p
-    go Idle e = cond_false (arms p) _ p e
-    go (Busy r) e = refl
+    go : (x : Option Rx) → arms_on x p ≡ false → arm_receive_on x p ≡ p
+    go None e = cond_false (arms p) _ p e
+    go (Some r) e = refl
 
 pub basic_still : (p : Port) → due_now (tx_next p.tx) p.half ≡ false → due_now (rx_next p.rx) p.half ≡ false → arms_on p.rx p ≡ false → process_basic p ≡ p
 unfolding process_basic
 basic_still p t r a =
     ap (λ (q : Port). arm_receive (advance_rx q)) (tx_still p t) ∙ ap arm_receive (rx_still p r) ∙ arm_still p a
-
--- the same by one test, put together from what calls gave
-pub nothing_due_of : (p : Port) (d e : Due) (s r a : Bool) → d ≡ tx_next p.tx → s ≡ due_now d p.half → e ≡ rx_next p.rx → r ≡ due_now e p.half → a ≡ arms_on p.rx p
-    → (not s && (not r && not a)) ≡ nothing_due p
-unfolding nothing_due
-nothing_due_of p d e s r a ed es ee er ea =
-    let sends : s ≡ due_now (tx_next p.tx) p.half = es ∙ ap (λ (x : Due). due_now x p.half) ed in
-    let receives : r ≡ due_now (rx_next p.rx) p.half = er ∙ ap (λ (x : Due). due_now x p.half) ee in
-    λ i. not (sends i) && (not (receives i) && not (ea i))
 
 pub basic_nothing_due : (z p : Port) (f : Bool) → f ≡ nothing_due p → f ≡ true → z ≡ p → z ≡ process_basic p
 unfolding nothing_due
@@ -91,22 +76,22 @@ pub edge_still : (p : Port) → due_now p.sync_next p.half ≡ false → clocked
 unfolding clocked_edge
 edge_still p h = cond_false (due_now p.sync_next p.half) _ p h
 
-absent_never : (d : Due) → absent d ≡ true → d ≡ Never
-absent_never Never e = refl
-absent_never (At n) e = absurd (false≢true e)
+absent_never : (d : Option ℕ) → is_none d ≡ true → d ≡ None
+absent_never None e = refl
+absent_never (Some n) e = absurd (false≢true e)
 
-present : (d : Due) (n : ℕ) → not (absent d) ≡ true → due_or d n ≡ d
-present Never n e = absurd (false≢true e)
-present (At m) n e = refl
+present : (d : Option ℕ) (n : ℕ) → not (is_none d) ≡ true → option_or d (Some n) ≡ d
+present None n e = absurd (false≢true e)
+present (Some m) n e = refl
 
 pub refresh_still : (p : Port) → external p ≡ false → clock_fresh p ≡ true → refresh_sync_clock p ≡ p
 unfolding refresh_sync_clock clock_fresh
 refresh_still p x f = cond_false (external p) _ _ x ∙ go (sync_needed p) f
   where
-    go : (b : Bool) → cond b (not (absent p.sync_next)) (absent p.sync_next && p.sck) ≡ true → cond b (with_sync_next p (due_or p.sync_next (p.half + 2))) (with_clock p Never true) ≡ p
+    go : (b : Bool) → cond b (not (is_none p.sync_next)) (is_none p.sync_next && p.sck) ≡ true → cond b (with_sync_next p (option_or p.sync_next (Some (p.half + 2)))) (with_clock p None true) ≡ p
     go true e = ap (with_sync_next p) (present p.sync_next (p.half + 2) e)
     go false e =
-        let a : Bool = absent p.sync_next in
+        let a : Bool = is_none p.sync_next in
         ap₂ (with_clock p) (sym (absent_never p.sync_next (and_left a p.sck e))) (sym (and_right a p.sck e))
 
 -- ---- after the sender's step it is not due again at this half
@@ -121,10 +106,10 @@ unfolding begin
 begin_sent p ch b =
     both_arms (Sent p.half) ch.format.synchronous _ _ refl (ahead p.half ch.format.half_bit (omega (arith, b.half≥16)))
 
-start_sent : (l : Loaded) (p : Port) → LoadedBounded l → Sent p.half p → Sent p.half (start_loaded l p)
+start_sent : (l : Option Character) (p : Port) → LoadedBounded l → Sent p.half p → Sent p.half (start_loaded l p)
 unfolding start_at
-start_sent Nothing p b k = k
-start_sent (Next ch) p b k =
+start_sent None p b k = k
+start_sent (Some ch) p b k =
     both_arms (Sent p.half) ch.format.synchronous _ _ (begin_sent p ch b)
     (by_cond (Sent p.half) (eqb (boundary p ch.format.half_bit) p.half) _ _ (λ e. begin_sent p ch b) (λ e. e))
 
@@ -132,22 +117,22 @@ try_sent : (p : Port) → Sendable p.tx → Sent p.half p → Sent p.half (try_s
 unfolding try_start loaded preloaded
 try_sent p s k = go p.tx s
   where
-    held : (x : Holding) → Sent p.half (start_loaded (loaded_on x p) (preloaded_on x p))
-    held Empty = k
-    held (Byte v) = start_sent (Next (character p v)) (preloaded_on (Byte v) p) (bounded_now p) k
+    held : (x : Option ℕ) → Sent p.half (start_loaded (loaded_on x p) (preloaded_on x p))
+    held None = k
+    held (Some v) = start_sent (Some (character p v)) (preloaded_on (Some v) p) (bounded_now p) k
 
     go : (t : Tx) → Sendable t → Sent p.half (try_start_on t p)
     go Off s =
-        both_arms (Sent p.half) (has p.scr 0x20 && (holds p.holding && (not (format_of p).synchronous || error_free p))) _ _ (held p.holding) k
+        both_arms (Sent p.half) (has p.scr 0x20 && (is_some p.holding && (not (format_of p).synchronous || error_free p))) _ _ (held p.holding) k
     go (Blocked ch) s = both_arms (Sent p.half) (error_free p) _ _ (begin_sent p ch s) k
     go (Mark next) s = k
     go (Start ch next) s = k
     go (Data ch cell next) s = k
     go (Tail l next) s = k
 
-finish_sent : (l : Loaded) (p : Port) → LoadedBounded l → Sent p.half (finish_tail l p)
-finish_sent Nothing p b = try_sent (one_sent p) tt refl
-finish_sent (Next ch) p b =
+finish_sent : (l : Option Character) (p : Port) → LoadedBounded l → Sent p.half (finish_tail l p)
+finish_sent None p b = try_sent (one_sent p) tt refl
+finish_sent (Some ch) p b =
     both_arms (Sent p.half) (ch.format.synchronous && not (error_free p)) _ _ refl (begin_sent (one_sent p) ch b)
 
 cell_sent : (ch : Character) (cell : ℕ) (p : Port) → Bounded ch.format → Sent p.half (next_cell ch cell p)
@@ -192,7 +177,7 @@ sample_taken (pos j) now high h r b f =
     both_arms (TakenBy h) (ltb j r.format.«data») _ _ next
     (both_arms (TakenBy h) (eqb j r.format.«data» && r.format.parity) _ _ next tt)
 
-complete_taken : (p : Port) (r : Rx) → Taken p.half (complete_receive (with_rx p Idle) r)
+complete_taken : (p : Port) (r : Rx) → Taken p.half (complete_receive (with_rx p None) r)
 unfolding complete_receive
 complete_taken p r =
     both_arms (Taken p.half) (has p.ssr 0x40) _ _ refl (both_arms (Taken p.half) (eqb r.error 0) _ _ refl refl)
@@ -207,12 +192,12 @@ module _ {n : ℕ} {p : Port} (r : Ready n p) where
   unfolding advance_rx
   step_taken = go p.rx refl r.placed
     where
-      go : (x : Receiver) → p.rx ≡ x → PlacedIn x → Taken p.half (advance_rx_on x p)
-      go Idle e h = ap (λ (y : Receiver). due_now (rx_next y) p.half) e
-      go (Busy x) e h =
+      go : (x : Option Rx) → p.rx ≡ x → PlacedIn x → Taken p.half (advance_rx_on x p)
+      go None e h = ap (λ (y : Option Rx). due_now (rx_next y) p.half) e
+      go (Some x) e h =
           by_cond (Taken p.half) (due_now x.next p.half) _ _
           (λ d. after_taken (sample (format_of p) (input_level p) p.half x) p (sample_taken x.position (format_of p) (input_level p) p.half x (bounded_now p) h.bounded))
-          (λ d. ap (λ (y : Receiver). due_now (rx_next y) p.half) e ∙ d)
+          (λ d. ap (λ (y : Option Rx). due_now (rx_next y) p.half) e ∙ d)
 
 -- ---- a word that begins waits for a later half, and none is left to begin
 fall_ahead : (p : Port) → eqb (next_fall p) p.half ≡ false
@@ -223,20 +208,20 @@ arm_taken : (p : Port) → Taken p.half p → Taken p.half (arm_receive p)
 unfolding arm_receive
 arm_taken p k = go p.rx
   where
-    go : (x : Receiver) → Taken p.half (arm_receive_on x p)
-    go Idle = both_arms (Taken p.half) (arms p) _ _ (fall_ahead p) k
-    go (Busy r) = k
+    go : (x : Option Rx) → Taken p.half (arm_receive_on x p)
+    go None = both_arms (Taken p.half) (arms p) _ _ (fall_ahead p) k
+    go (Some r) = k
 
 pub arm_done : (p : Port) → arms_on (arm_receive p).rx (arm_receive p) ≡ false
 unfolding arm_receive
 arm_done p = go p.rx refl
   where
-    None : Port → Type 0
-    None q = arms_on q.rx q ≡ false
+    Disarmed : Port → Type 0
+    Disarmed q = arms_on q.rx q ≡ false
 
-    go : (x : Receiver) → p.rx ≡ x → None (arm_receive_on x p)
-    go Idle e = by_cond None (arms p) _ _ (λ a. refl) (λ a. ap (λ (y : Receiver). arms_on y p) e ∙ a)
-    go (Busy r) e = ap (λ (y : Receiver). arms_on y p) e
+    go : (x : Option Rx) → p.rx ≡ x → Disarmed (arm_receive_on x p)
+    go None e = by_cond Disarmed (arms p) _ _ (λ a. refl) (λ a. ap (λ (y : Option Rx). arms_on y p) e ∙ a)
+    go (Some r) e = ap (λ (y : Option Rx). arms_on y p) e
 
 -- ---- so after the basic work neither is due
 module _ {n : ℕ} {p : Port} (r : Ready n p) where
@@ -274,8 +259,8 @@ idle_edge b p e = go b
     shifts (Blocked ch) c = refl
     shifts (Mark n) c = refl
     shifts (Start ch n) c = refl
-    shifts (Data ch cell Never) c = absurd (true≢false c)
-    shifts (Data ch cell (At n)) c = refl
+    shifts (Data ch cell None) c = absurd (true≢false c)
+    shifts (Data ch cell (Some n)) c = refl
     shifts (Tail l next) c = refl
 
     ends : (t : Tx) → tx_clocked t ≡ false → tail_ends_on t p ≡ p
@@ -284,12 +269,12 @@ idle_edge b p e = go b
     ends (Mark n) c = refl
     ends (Start ch n) c = refl
     ends (Data ch cell next) c = refl
-    ends (Tail l Never) c = absurd (true≢false c)
-    ends (Tail l (At n)) c = refl
+    ends (Tail l None) c = absurd (true≢false c)
+    ends (Tail l (Some n)) c = refl
 
-    takes : (x : Receiver) → ((format_of p).synchronous || rx_clocked x) ≡ false → receive_bit_on x p ≡ p
-    takes Idle c = cond_false (format_of p).synchronous _ p (or_left (format_of p).synchronous false c)
-    takes (Busy r) c = cond_false r.format.synchronous _ p (or_right (format_of p).synchronous r.format.synchronous c)
+    takes : (x : Option Rx) → ((format_of p).synchronous || rx_clocked x) ≡ false → receive_bit_on x p ≡ p
+    takes None c = cond_false (format_of p).synchronous _ p (or_left (format_of p).synchronous false c)
+    takes (Some r) c = cond_false r.format.synchronous _ p (or_right (format_of p).synchronous r.format.synchronous c)
 
     receives : (a f : Bool) → (a && (f && ((format_of p).synchronous || rx_clocked p.rx))) ≡ false → cond (a && f) (receive_bit_on p.rx p) p ≡ p
     receives true true c = takes p.rx c
@@ -302,19 +287,19 @@ idle_edge b p e = go b
         ap (λ (q : Port). tail_ends_on q.tx q) k ∙ ends p.tx sends
     go false = shifts p.tx sends
 
-refresh_needed : (p : Port) → external p ≡ false → sync_needed p ≡ true → refresh_sync_clock p ≡ with_sync_next p (due_or p.sync_next (p.half + 2))
+refresh_needed : (p : Port) → external p ≡ false → sync_needed p ≡ true → refresh_sync_clock p ≡ with_sync_next p (option_or p.sync_next (Some (p.half + 2)))
 unfolding refresh_sync_clock
 refresh_needed p x e = cond_false (external p) _ _ x ∙ cond_true (sync_needed p) _ _ e
 
-refresh_idle : (p : Port) → external p ≡ false → sync_needed p ≡ false → refresh_sync_clock p ≡ with_clock p Never true
+refresh_idle : (p : Port) → external p ≡ false → sync_needed p ≡ false → refresh_sync_clock p ≡ with_clock p None true
 unfolding refresh_sync_clock
 refresh_idle p x e = cond_false (external p) _ _ x ∙ cond_false (sync_needed p) _ _ e
 
-edge_idle : (p : Port) → external p ≡ false → sync_needed p ≡ false → refresh_sync_clock (clocked_edge p) ≡ with_clock p Never true
+edge_idle : (p : Port) → external p ≡ false → sync_needed p ≡ false → refresh_sync_clock (clocked_edge p) ≡ with_clock p None true
 unfolding clocked_edge
 edge_idle p x e =
-    let c : Port = with_clock p Never (not p.sck) in
-    by_cond (λ (w : Port). refresh_sync_clock w ≡ with_clock p Never true) (due_now p.sync_next p.half) _ p
+    let c : Port = with_clock p None (not p.sck) in
+    by_cond (λ (w : Port). refresh_sync_clock w ≡ with_clock p None true) (due_now p.sync_next p.half) _ p
     (λ d. ap refresh_sync_clock (idle_edge (not p.sck) c e) ∙ refresh_idle c x e) (λ d. refresh_idle p x e)
 
 -- a refresh before the edge adds nothing to the one after it
@@ -327,25 +312,25 @@ planned_once p x = go (sync_needed p) refl
     Same : Type 0
     Same = both (refresh_sync_clock p) ≡ both p
 
-    on : (d : Due) → p.sync_next ≡ d → sync_needed p ≡ true → Same
-    on (At m) d e =
-        ap both (refresh_needed p x e ∙ ap (with_sync_next p) (ap (λ (y : Due). due_or y (p.half + 2)) d ∙ sym d))
-    on Never d e =
-        let q : Port = with_sync_next p (At (p.half + 2)) in
-        let f : refresh_sync_clock p ≡ q = refresh_needed p x e ∙ ap (λ (y : Due). with_sync_next p (due_or y (p.half + 2))) d in
+    on : (d : Option ℕ) → p.sync_next ≡ d → sync_needed p ≡ true → Same
+    on (Some m) d e =
+        ap both (refresh_needed p x e ∙ ap (with_sync_next p) (ap (λ (y : Option ℕ). option_or y (Some (p.half + 2))) d ∙ sym d))
+    on None d e =
+        let q : Port = with_sync_next p (Some (p.half + 2)) in
+        let f : refresh_sync_clock p ≡ q = refresh_needed p x e ∙ ap (λ (y : Option ℕ). with_sync_next p (option_or y (Some (p.half + 2)))) d in
         ap both f ∙ ap refresh_sync_clock (edge_still q (ne_eqb (p.half + 2) p.half (omega arith))) ∙ refresh_needed q x e ∙ sym f
-        ∙ ap refresh_sync_clock (sym (edge_still p (ap (λ (y : Due). due_now y p.half) d)))
+        ∙ ap refresh_sync_clock (sym (edge_still p (ap (λ (y : Option ℕ). due_now y p.half) d)))
 
     go : (b : Bool) → sync_needed p ≡ b → Same
     go true e = on p.sync_next refl e
     go false e =
-        let q : Port = with_clock p Never true in
+        let q : Port = with_clock p None true in
         ap both (refresh_idle p x e) ∙ ap refresh_sync_clock (edge_still q refl) ∙ refresh_idle q x e ∙ sym (edge_idle p x e)
 
 -- ---- a half's work, in one pass, where after the basic work neither sender nor receiver is due
-arms_clock : (x : Receiver) (p : Port) (d : Due) (b : Bool) → arms_on x (with_clock p d b) ≡ arms_on x p
-arms_clock Idle p d b = refl
-arms_clock (Busy r) p d b = refl
+arms_clock : (x : Option Rx) (p : Port) (d : Option ℕ) (b : Bool) → arms_on x (with_clock p d b) ≡ arms_on x p
+arms_clock None p d b = refl
+arms_clock (Some r) p d b = refl
 
 basic_armed : (p : Port) → arms_on (process_basic p).rx (process_basic p) ≡ false
 unfolding process_basic
@@ -353,7 +338,7 @@ basic_armed p = arm_done (advance_rx (advance_tx p))
 
 module _ (p : Port) (sent : Sent (process_basic p).half (process_basic p)) (taken : Taken (process_basic p).half (process_basic p)) where
   -- the basic work changes nothing more, whatever the clock of clocked form
-  basic_again : (d : Due) (b : Bool) → process_basic (with_clock (process_basic p) d b) ≡ with_clock (process_basic p) d b
+  basic_again : (d : Option ℕ) (b : Bool) → process_basic (with_clock (process_basic p) d b) ≡ with_clock (process_basic p) d b
   basic_again d b = basic_still (with_clock (process_basic p) d b) sent taken (arms_clock (process_basic p).rx (process_basic p) d b ∙ basic_armed p)
 
   pub one_pass : external p ≡ false → advance (sync p) ≡ advance p

@@ -1,66 +1,59 @@
 -- Halves on which nothing happens only count, so that a run of them may be counted at once; and what the loop of `halves` cites.
 -- Assumes nothing.
+use Rattle.std.specs.Prelude.{Option, None, Some, is_some, unwrap_or}
 use Rattle.std.proofs.Common.{◌≡◌, ℕ, zero, suc, ◌+◌, ◌-◌, ◌%◌, ◌<◌, ◌≤◌, Bool, true, false, cond, not, ◌&&◌, ◌||◌, eqb, ltb, sym, refl, ap, ◌∙◌, subst, ap₂, true≢false, le_trans, suc-add, zero-add, arith, ltb-false, ltb-true, lt-ltb, eq-eqb, ne_eqb, eqb-true}
 use mathlib.Core.Path.{subst⁻¹}
-use mathlib.Core.Bool.{or-false, false≢true}
 use borrow.Author.Tests.{eqb-false, not-true}
 use Rattle.frame.specs.Frame.{differ}
 use Rattle.branches.proofs.Branches.{by_cond}
-use Rattle.frame.proofs.Choose.{cond_t, cond_f}
+use Rattle.frame.proofs.Choose.{cond_t}
 use Rattle.frame.proofs.Truth.{and_left, and_right}
-use Rattle.shift.specs.declared.Due.{Due}
-use Rattle.shift.specs.declared.Due.TheVariants.{Never, At}
-use Rattle.shift.specs.declared.Receiver.{Receiver}
-use Rattle.shift.specs.declared.Receiver.TheVariants.{Idle, Busy}
 use Rattle.shift.specs.Due.{due_now, within}
 use Rattle.shift.specs.Sender.{tx_next}
 use Rattle.shift.specs.Receiver.{rx_next}
 use Rattle.port.specs.declared.Port.{Port}
-use Rattle.port.specs.Fields.{with_half, with_high, with_edge, with_input_clock}
-use Rattle.port.specs.Baud.{external, running, counted, edge_counted, edge_counts}
+use Rattle.port.specs.Fields.{with_half, with_high, with_edge}
+use Rattle.port.specs.Baud.{external, counted}
 use Rattle.port.specs.Clocked.{refresh_sync_clock, sync_edge}
 use Rattle.port.specs.Half.{process_basic, clocked_edge, advance, half_step, halves}
 use Rattle.port.specs.Private.Skip.{arms_on, clock_fresh, deadline, counted_by, idle_for, toggled, edge_of, edge_work, ClockGives, edges}
-use Rattle.port.specs.Input.{receive_input, external_edge}
 use Rattle.port.specs.Valid.{limit}
 use Rattle.port.specs.Private.Ready.{Ready}
 use Rattle.port.proofs.Keep.{own, keep_process_basic, keep_sync_edge, keep_clocked_edge, keep_refresh_sync_clock, keep_counted, sync_edge_ready, clocked_edge_ready, with_clock_ready}
 use Rattle.port.proofs.SenderKeeps.{free_sender}
 use Rattle.port.proofs.ReceiverKeeps.{free_receiver, advance_keeps}
 use Rattle.port.proofs.OnePass.{basic_still, edge_still, refresh_still, half_once}
+use Rattle.shift.specs.declared.Rx.{Rx}
 
 -- ---- the first half that is due
 -- a due half is none of the k halves after h
-abbrev Clear : Due → ℕ → ℕ → Type 0
-Clear Never h k = Unit
-Clear (At n) h k = h < n → h + k < n
+abbrev Clear : Option ℕ → ℕ → ℕ → Type 0
+Clear None h k = Unit
+Clear (Some n) h k = h < n → h + k < n
 
-not_now : (d : Due) (h k : ℕ) → Clear d h (suc k) → due_now d (suc h) ≡ false
-not_now Never h k c = refl
-not_now (At n) h k c = ne_eqb n (suc h) (λ e. let l : h + suc k < n = c (omega (arith, e)) in omega (arith, e, l))
+not_now : (d : Option ℕ) (h k : ℕ) → Clear d h (suc k) → due_now d (suc h) ≡ false
+not_now None h k c = refl
+not_now (Some n) h k c = ne_eqb n (suc h) (λ e. let l : h + suc k < n = c (omega (arith, e)) in omega (arith, e, l))
 
-later : (d : Due) (h k : ℕ) → Clear d h (suc k) → Clear d (suc h) k
-later Never h k c = tt
-later (At n) h k c = λ b. let l : h + suc k < n = c (omega (arith, b)) in omega (arith, l)
+later : (d : Option ℕ) (h k : ℕ) → Clear d h (suc k) → Clear d (suc h) k
+later None h k c = tt
+later (Some n) h k c = λ b. let l : h + suc k < n = c (omega (arith, b)) in omega (arith, l)
 
-within_bounds : (d : Due) (h left : ℕ) → 1 ≤ left → (1 ≤ within d h left) × (within d h left ≤ left)
-within_bounds Never h left l = (l, omega arith)
-within_bounds (At n) h left l =
+within_bounds : (d : Option ℕ) (h left : ℕ) → 1 ≤ left → (1 ≤ within d h left) × (within d h left ≤ left)
+within_bounds None h left l = (l, omega arith)
+within_bounds (Some n) h left l =
     by_cond (λ (x : ℕ). (1 ≤ x) × (x ≤ left)) (ltb h n) _ _
     (λ e. by_cond (λ (x : ℕ). (1 ≤ x) × (x ≤ left)) (ltb (n - h) left) _ _
     (λ f. (omega (arith, ltb-true h n e), omega (arith, ltb-true (n - h) left f))) (λ f. (l, omega arith)))
     (λ e. (l, omega arith))
 
-within_clear : (d : Due) (h left k : ℕ) → k < within d h left → Clear d h k
-within_clear Never h left k l = tt
-within_clear (At n) h left k l = λ b. near b (subst (λ (x : Bool). k < cond x (cond (ltb (n - h) left) (n - h) left) left) (lt-ltb h n b) l)
+within_clear : (d : Option ℕ) (h left k : ℕ) → k < within d h left → Clear d h k
+within_clear None h left k l = tt
+within_clear (Some n) h left k l = λ b. near b (subst (λ (x : Bool). k < cond x (cond (ltb (n - h) left) (n - h) left) left) (lt-ltb h n b) l)
   where
     near : h < n → k < cond (ltb (n - h) left) (n - h) left → h + k < n
     near b m =
         by_cond (λ (x : ℕ). k < x → h + k < n) (ltb (n - h) left) _ _ (λ e g. omega arith) (λ e g. omega (arith, ltb-false (n - h) left e)) m
-
-pub within_of : (z : ℕ) (d e : Due) (h m n : ℕ) → z ≡ within d h m → d ≡ e → m ≡ n → z ≡ within e h n
-within_of z d e h m n a b c = a ∙ ap₂ (λ (x : Due) (y : ℕ). within x h y) b c
 
 -- ---- k halves counted one by one are k counted at once
 odd_suc : (k : ℕ) → not (eqb (suc k % 2) 0) ≡ not (not (eqb (k % 2) 0))
@@ -101,9 +94,9 @@ record Still (k : ℕ) (p : Port) : Type 0 where
   pub receives : Clear (rx_next p.rx) p.half k
   pub clocks : Clear p.sync_next p.half k
 
-arms_counted : (x : Receiver) (p : Port) → arms_on x (counted p) ≡ arms_on x p
-arms_counted Idle p = refl
-arms_counted (Busy r) p = refl
+arms_counted : (x : Option Rx) (p : Port) → arms_on x (counted p) ≡ arms_on x p
+arms_counted None p = refl
+arms_counted (Some r) p = refl
 
 fresh_counted : (p : Port) → clock_fresh (counted p) ≡ clock_fresh p
 unfolding clock_fresh
@@ -165,16 +158,6 @@ idle_still n p e =
       receives = within_clear (rx_next p.rx) p.half (n + 1) n (ltb-true n _ (and_left r c rc));
       clocks = within_clear p.sync_next p.half (n + 1) n (ltb-true n _ (and_right r c rc));
     }
-
--- the test, put together from what calls gave
-pub idle_of : (n : ℕ) (p : Port) (a f : Bool) (d e : Due) (s r c : ℕ) → a ≡ arms_on p.rx p → f ≡ clock_fresh p → d ≡ tx_next p.tx → s ≡ within d p.half (n + 1)
-    → e ≡ rx_next p.rx → r ≡ within e p.half (n + 1) → c ≡ within p.sync_next p.half (n + 1)
-    → (not a && (f && (ltb n s && (ltb n r && ltb n c)))) ≡ idle_for n p
-unfolding idle_for
-idle_of n p a f d e s r c ea ef ed es ee er ec =
-    let sends = within_of s d (tx_next p.tx) p.half (n + 1) (n + 1) es ed refl in
-    let receives = within_of r e (rx_next p.rx) p.half (n + 1) (n + 1) er ee refl in
-    λ i. not (ea i) && (ef i && (ltb n (sends i) && (ltb n (receives i) && ltb n (ec i))))
 
 pub idle_halves : (z p : Port) (n : ℕ) (f : Bool) → Ready p.half p → p.half + n ≤ limit → external p ≡ false → 448 < n → f ≡ idle_for n p → f ≡ true → z ≡ counted_by n p → z ≡ halves n p
 idle_halves z p zero f r l x some ef t e = absurd (omega (arith, some))
@@ -238,61 +221,31 @@ advance_internal p x =
     advance_keeps Internal (free_sender Internal (λ q t u b s x k. k) (λ q n k. k)) (free_receiver Internal (λ q x s v n k. k)) (λ q d b k. k) p x
 
 -- ---- the work of an edge of the basic clock
-pub toggled_ready : (q p : Port) (pin : Bool) → q ≡ toggled pin p → Ready p.half p → Ready q.half q
-toggled_ready q p true e r = with_clock_ready q p p.sync_next p.sck e r
-toggled_ready q p false e r = with_clock_ready q p Never (not p.sck) e r
+pub toggled_ready : (q p : Port) (pin : Option Bool) → q ≡ toggled pin p → Ready p.half p → Ready q.half q
+toggled_ready q p None e r = with_clock_ready q p None (not p.sck) e r
+toggled_ready q p (Some level) e r = with_clock_ready q p p.sync_next p.sck e r
 
-pub edge_t : (z q p : Port) (pin level d : Bool) → d ≡ due_now p.sync_next p.half → (pin || d) ≡ true → q ≡ toggled pin p
-    → z ≡ sync_edge ((pin && level) || not (pin || p.sck)) q → z ≡ edge_of pin level p
+pub edge_t : (z q p : Port) (pin : Option Bool) (d : Bool) → d ≡ due_now p.sync_next p.half → (is_some pin || d) ≡ true → q ≡ toggled pin p
+    → z ≡ sync_edge (unwrap_or pin (not p.sck)) q → z ≡ edge_of pin p
 unfolding clocked_edge
-edge_t z q p true level d ed t eq e = e ∙ ap₂ sync_edge (or-false level) eq
-edge_t z q p false level d ed t eq e = cond_t (due_now p.sync_next p.half) _ p z (sym ed ∙ t) (e ∙ ap (sync_edge (not p.sck)) eq)
+edge_t z q p None d ed t eq e = cond_t (due_now p.sync_next p.half) _ p z (sym ed ∙ t) (e ∙ ap (sync_edge (not p.sck)) eq)
+edge_t z q p (Some level) d ed t eq e = e ∙ ap (sync_edge level) eq
 
-pub edge_f : (z p : Port) (pin level d : Bool) → d ≡ due_now p.sync_next p.half → (pin || d) ≡ false → z ≡ p → z ≡ edge_of pin level p
-edge_f z p true level d ed t e = absurd (true≢false t)
-edge_f z p false level d ed t e = e ∙ sym (edge_still p (sym ed ∙ t))
+pub edge_f : (z p : Port) (pin : Option Bool) (d : Bool) → d ≡ due_now p.sync_next p.half → (is_some pin || d) ≡ false → z ≡ p → z ≡ edge_of pin p
+edge_f z p None d ed t e = e ∙ sym (edge_still p (sym ed ∙ t))
+edge_f z p (Some level) d ed t e = absurd (true≢false t)
 
-pub edge_ready : (r p : Port) (pin level : Bool) → r ≡ edge_of pin level p → Ready p.half p → Ready r.half r
-edge_ready r p true level e h = sync_edge_ready r p level e h
-edge_ready r p false level e h = clocked_edge_ready r p e h
+pub edge_ready : (r p : Port) (pin : Option Bool) → r ≡ edge_of pin p → Ready p.half p → Ready r.half r
+edge_ready r p None e h = clocked_edge_ready r p e h
+edge_ready r p (Some level) e h = sync_edge_ready r p level e h
 
-pub work_of : (z c b p : Port) (pin level : Bool) → b ≡ process_basic p → c ≡ edge_of pin level b → z ≡ refresh_sync_clock c → z ≡ edge_work pin level p
-work_of z c b p pin level eb ec e = e ∙ ap refresh_sync_clock (ec ∙ ap (edge_of pin level) eb)
+keep_work : {n : ℕ} {p : Port} (pin : Option Bool) → Ready n p → Ready n (edge_work pin p)
+keep_work None r = keep_refresh_sync_clock (keep_clocked_edge (keep_process_basic r))
+keep_work (Some level) r = keep_refresh_sync_clock (keep_sync_edge (keep_process_basic r) level)
 
-keep_work : {n : ℕ} {p : Port} (pin level : Bool) → Ready n p → Ready n (edge_work pin level p)
-keep_work true level r = keep_refresh_sync_clock (keep_sync_edge (keep_process_basic r) level)
-keep_work false level r = keep_refresh_sync_clock (keep_clocked_edge (keep_process_basic r))
-
-work_internal : (level : Bool) (p : Port) → Internal p → Internal (edge_work false level p)
+work_internal : (p : Port) → Internal p → Internal (edge_work None p)
 unfolding advance
-work_internal level p x = advance_internal p x
-
--- an edge of the pin is counted where the phase is another, so the phase toggles
-pub pin_counts : (z p : Port) (high f : Bool) → f ≡ edge_counts high p → f ≡ true → z ≡ edge_work true high (counted p) → z ≡ external_edge high p
-unfolding external_edge
-pin_counts z p high f ef t e =
-    let counts : edge_counts high p ≡ true = sym ef ∙ t in
-    let turns : not p.high ≡ high = turned p.high high (and_right (external p) (differ p.high high) (and_right (running p) (external p && differ p.high high) counts)) in
-    cond_t (edge_counts high p) _ p z counts (e ∙ ap (λ (b : Bool). edge_work true high (edge_counted p b)) turns)
-  where
-    turned : (a b : Bool) → differ a b ≡ true → not a ≡ b
-    turned true true d = absurd (false≢true d)
-    turned true false d = refl
-    turned false true d = refl
-    turned false false d = absurd (false≢true d)
-
--- the same after the line was set
-pub pins_t : (z r p : Port) (clock line f : Bool) → r ≡ receive_input line p → f ≡ edge_counts clock (with_input_clock r clock) → f ≡ true
-    → z ≡ edge_work true clock (counted (with_input_clock r clock)) → z ≡ external_edge clock (with_input_clock (receive_input line p) clock)
-pins_t z r p clock line f er ef t e =
-    pin_counts z (with_input_clock r clock) clock f ef t e ∙ ap (λ (q : Port). external_edge clock (with_input_clock q clock)) er
-
-pub pins_f : (z r p : Port) (clock line f : Bool) → r ≡ receive_input line p → f ≡ edge_counts clock (with_input_clock r clock) → f ≡ false
-    → z ≡ with_input_clock r clock → z ≡ external_edge clock (with_input_clock (receive_input line p) clock)
-unfolding external_edge
-pins_f z r p clock line f er ef t e =
-    cond_f (edge_counts clock (with_input_clock r clock)) _ (with_input_clock r clock) z (sym ef ∙ t) e
-    ∙ ap (λ (q : Port). external_edge clock (with_input_clock q clock)) er
+work_internal p x = advance_internal p x
 
 -- ---- the loop: what is left makes of the port what all of them make of the first one
 halves_add : (k m : ℕ) (p : Port) → halves (k + m) p ≡ halves m (halves k p)
@@ -310,62 +263,62 @@ unfolding counted_by
 external_counted k p = refl
 
 -- a port that the loop may go on with, left edges from its end
-abbrev Held : Bool → ℕ → Port → Type 0
-Held true left p = left ≤ 1
-Held false left p = external p ≡ false
+abbrev Held : Option Bool → ℕ → Port → Type 0
+Held None left p = external p ≡ false
+Held (Some level) left p = left ≤ 1
 
-abbrev pub Goes : Bool → ℕ → Port → Type 0
+abbrev pub Goes : Option Bool → ℕ → Port → Type 0
 Goes pin left p = Ready p.half p × (p.half + left ≤ limit) × Held pin left p
 
-pub goes_in : (pin : Bool) (n : ℕ) (p : Port) → Ready p.half p × (p.half + n ≤ limit) × ClockGives pin n p → Goes pin n p
-goes_in true n p h = (h.0, h.1, omega (arith, h.2))
-goes_in false n p h = h
+pub goes_in : (pin : Option Bool) (n : ℕ) (p : Port) → Ready p.half p × (p.half + n ≤ limit) × ClockGives pin n p → Goes pin n p
+goes_in None n p h = h
+goes_in (Some level) n p h = (h.0, h.1, omega (arith, h.2))
 
-module _ (pin level : Bool) (r q p : Port) (left k : ℕ) (l : 1 ≤ left) (g : Goes pin left p) (e : k ≡ deadline left p) (f : q ≡ counted_by k p) where
+module _ (pin : Option Bool) (r q p : Port) (left k : ℕ) (l : 1 ≤ left) (g : Goes pin left p) (e : k ≡ deadline left p) (f : q ≡ counted_by k p) where
   counted_ready : Ready (p.half + k) q
   counted_ready = subst⁻¹ (Ready (p.half + k)) f (keep_counted_by k g.0 (omega (arith, g.1, (deadline_bounds p left k l e).1)))
 
   counted_clocked : ClockGives pin 1 q
   counted_clocked = go pin g.2
     where
-      go : (b : Bool) → Held b left p → ClockGives b 1 q
-      go true h = refl
-      go false h = ap external f ∙ external_counted k p ∙ h
+      go : (b : Option Bool) → Held b left p → ClockGives b 1 q
+      go (Some level) h = refl
+      go None h = ap external f ∙ external_counted k p ∙ h
 
   pub counted_goes : Ready q.half q
   counted_goes = own q (p.half + k) counted_ready
 
-  pub goes_on : r ≡ edge_work pin level q → Goes pin (left - k) r
+  pub goes_on : r ≡ edge_work pin q → Goes pin (left - k) r
   goes_on d =
-      let y : Ready (p.half + k) r = subst⁻¹ (Ready (p.half + k)) d (keep_work pin level counted_ready) in
+      let y : Ready (p.half + k) r = subst⁻¹ (Ready (p.half + k)) d (keep_work pin counted_ready) in
       (own r (p.half + k) y, omega (arith, y.half≡, g.1, (deadline_bounds p left k l e).1), go pin g.2 counted_clocked d)
     where
-      go : (b : Bool) → Held b left p → ClockGives b 1 q → r ≡ edge_work b level q → Held b (left - k) r
-      go true h x d = omega (arith, h)
-      go false h x d = ap external d ∙ work_internal level q x
+      go : (b : Option Bool) → Held b left p → ClockGives b 1 q → r ≡ edge_work b q → Held b (left - k) r
+      go (Some level) h x d = omega (arith, h)
+      go None h x d = ap external d ∙ work_internal q x
 
-  pub edges_on : (n : ℕ) (p₀ : Port) → r ≡ edge_work pin level q → edges pin level left p ≡ edges pin level n p₀ → edges pin level (left - k) r ≡ edges pin level n p₀
+  pub edges_on : (n : ℕ) (p₀ : Port) → r ≡ edge_work pin q → edges pin left p ≡ edges pin n p₀ → edges pin (left - k) r ≡ edges pin n p₀
   unfolding advance
   edges_on n p₀ d h = go pin g.2 d ∙ h
     where
       bounds : (1 ≤ k) × (k ≤ left)
       bounds = deadline_bounds p left k l e
 
-      go : (b : Bool) → Held b left p → r ≡ edge_work b level q → edges b level (left - k) r ≡ edges b level left p
-      go true h d =
+      go : (b : Option Bool) → Held b left p → r ≡ edge_work b q → edges b (left - k) r ≡ edges b left p
+      go (Some level) h d =
           let one : left ≡ 1 = omega (arith, h, l) in
           let all : k ≡ 1 = omega (arith, h, bounds.0, bounds.1) in
           let none : left - k ≡ 0 = omega (arith, one, all) in
-          ap (λ (m : ℕ). edges true level m r) none ∙ d ∙ ap (edge_work true level) (f ∙ ap (λ (m : ℕ). counted_by m p) all ∙ sym (one_counted p))
-          ∙ sym (ap (λ (m : ℕ). edges true level m p) one)
-      go false h d =
+          ap (λ (m : ℕ). edges (Some level) m r) none ∙ d ∙ ap (edge_work (Some level)) (f ∙ ap (λ (m : ℕ). counted_by m p) all ∙ sym (one_counted p))
+          ∙ sym (ap (λ (m : ℕ). edges (Some level) m p) one)
+      go None h d =
           ap (halves (left - k)) (d ∙ ap advance f ∙ skip_deadline p left k g.0 h l g.1 e) ∙ sym (halves_add k (left - k) p)
           ∙ ap (λ (m : ℕ). halves m p) (omega (arith, bounds.1))
 
-pub edges_none : (pin level : Bool) (left : ℕ) (p : Port) → left ≡ 0 → p ≡ edges pin level left p
+pub edges_none : (pin : Option Bool) (left : ℕ) (p : Port) → left ≡ 0 → p ≡ edges pin left p
 unfolding halves
-edges_none pin level left p e = sym (ap (λ (m : ℕ). edges pin level m p) e ∙ none pin)
+edges_none pin left p e = sym (ap (λ (m : ℕ). edges pin m p) e ∙ none pin)
   where
-    none : (b : Bool) → edges b level 0 p ≡ p
-    none true = refl
-    none false = refl
+    none : (b : Option Bool) → edges b 0 p ≡ p
+    none None = refl
+    none (Some level) = refl

@@ -1,6 +1,6 @@
 -- The direct calls of kinds 1 to 7 (document 01, "A script comes in"), with the refusals 8, 2, 1, 3, 4 in that order.
 -- Assumes nothing.
-use Rattle.std.specs.Prelude.{ℕ, ◌+◌, Bool, cond, not, ◌&&◌, List, [], ◌∷◌, ◌==◌, nat_le}
+use Rattle.std.specs.Prelude.{Result, Ok, Err, ℕ, ◌+◌, Bool, cond, not, ◌&&◌, List, [], ◌∷◌, ◌==◌, nat_le}
 use Rattle.command.specs.declared.Command.{Command}
 use Rattle.command.specs.declared.Command.TheVariants.{Read, Write, Wait, Line, Pins, Power, Inside}
 use Rattle.command.specs.Command.{in_range}
@@ -8,8 +8,6 @@ use Rattle.frame.specs.Frame.{has}
 use Rattle.port.specs.declared.Port.{Port}
 use Rattle.port.specs.declared.Refusal.{Refusal}
 use Rattle.port.specs.declared.Refusal.TheVariants.{Address, Operand, Infrared, Count, State}
-use Rattle.port.specs.declared.Outcome.{Outcome}
-use Rattle.port.specs.declared.Outcome.TheVariants.{Done, Refused}
 use Rattle.port.specs.declared.Called.{Called}
 use Rattle.port.specs.Baud.{internal, edge_counts}
 use Rattle.port.specs.Half.{halves, uncounted, inside}
@@ -73,9 +71,7 @@ number Infrared = 3
 number Count = 4
 number State = 8
 
-abbrev pub answer_of : Outcome → Port → Answer
-answer_of (Done v) p = done v p
-answer_of (Refused refusal offset) p = refused (number refusal) offset p
-
-abbrev pub answer : Called → Answer
-answer r = answer_of r.outcome r.port
+-- a refusal leaves the port as it was
+abbrev pub answer : Port → Result Called Refusal → Answer
+answer p (Ok r) = done r.value r.port
+answer p (Err refusal) = refuse (number refusal) p

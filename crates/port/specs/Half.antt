@@ -1,9 +1,8 @@
 -- One half (document 01, "One half"): count, and if a start-stop receiver is due now the basic work and a refresh; then basic work, clocked edge, refresh.
 -- Assumes nothing.
-use Rattle.std.specs.Prelude.{ℕ, zero, suc, false, cond, not}
+use Rattle.std.specs.Prelude.{ℕ, zero, suc, false, cond, not, None}
 use Rattle.shift.specs.Receiver.{rx_due_on}
 use Rattle.port.specs.declared.Port.{Port}
-use Rattle.shift.specs.declared.Due.TheVariants.{Never}
 use Rattle.port.specs.Fields.{with_edge}
 use Rattle.port.specs.Baud.{counted}
 use Rattle.shift.specs.Due.{due_now}
@@ -22,7 +21,7 @@ sync p = cond (rx_due_on p.rx p.half) (refresh_sync_clock (process_basic p)) p
 -- the clock of clocked form toggles at its due half
 unfoldable pub clocked_edge : Port → Port
 clocked_edge p =
-    cond (due_now p.sync_next p.half) (sync_edge (not p.sck) (with_clock p Never (not p.sck))) p
+    cond (due_now p.sync_next p.half) (sync_edge (not p.sck) (with_clock p None (not p.sck))) p
 
 unfoldable pub advance : Port → Port
 advance p = refresh_sync_clock (clocked_edge (process_basic p))

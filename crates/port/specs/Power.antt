@@ -1,10 +1,7 @@
 -- Power and resets (document 01, "The nine registers"; `set_power`), and the port that every run begins with.
 -- Assumes nothing.
-use Rattle.std.specs.Prelude.{ℕ, Bool, true, false, cond, not, ◌&&◌}
+use Rattle.std.specs.Prelude.{ℕ, Bool, true, false, cond, not, ◌&&◌, None}
 use Rattle.port.specs.declared.Port.{Port}
-use Rattle.shift.specs.declared.Due.TheVariants.{Never}
-use Rattle.shift.specs.declared.Holding.TheVariants.{Empty}
-use Rattle.shift.specs.declared.Receiver.TheVariants.{Idle}
 use Rattle.shift.specs.declared.Tx.TheVariants.{Off}
 use Rattle.port.specs.Fields.{with_spcr, with_module, with_main, with_sub, with_reset_mode, with_input, with_input_clock, with_transmitted, with_received}
 use Rattle.port.specs.Clocked.{refresh_sync_clock}
@@ -30,15 +27,15 @@ fresh =
       half = 0;
       high = true;
       edge = false;
-      holding = Empty;
+      holding = None;
       tx = Off;
-      rx = Idle;
+      rx = None;
       uart = true;
       bit_start = 0;
       input = true;
       input_clock = true;
       sck = true;
-      sync_next = Never;
+      sync_next = None;
       transmitted = 0;
       received = 0;
     }

@@ -1,13 +1,11 @@
 -- The receiver (document 01, "Receiver"): when a word begins, when it is sampled, and what a whole word does. What a sample makes of a word is in the crate shift.
 -- Assumes nothing.
-use Rattle.std.specs.Prelude.{suc, ◌%◌, ◌^◌, Bool, cond, not, ◌&&◌, ◌==◌, bit_or}
+use Rattle.std.specs.Prelude.{suc, ◌%◌, ◌^◌, Bool, cond, not, ◌&&◌, ◌==◌, bit_or, Option, None, Some}
 use Rattle.frame.specs.Frame.{has, differ}
 use Rattle.shift.specs.Due.{due_now}
 use Rattle.shift.specs.Receiver.{armed, sample}
 use Rattle.port.specs.declared.Port.{Port}
 use Rattle.shift.specs.declared.Rx.{Rx}
-use Rattle.shift.specs.declared.Receiver.{Receiver}
-use Rattle.shift.specs.declared.Receiver.TheVariants.{Idle, Busy}
 use Rattle.shift.specs.declared.Sampled.{Sampled}
 use Rattle.shift.specs.declared.Sampled.TheVariants.{Dropped, Onward, Whole}
 use Rattle.port.specs.Fields.{with_rx, with_ssr, with_rdr, with_received}
@@ -25,9 +23,9 @@ error_free p = not (has p.ssr 0x38)
 abbrev pub arms : Port → Bool
 arms p = has p.scr 0x10 && (error_free p && (not (format_of p).synchronous && not (input_level p)))
 
-abbrev pub arm_receive_on : Receiver → Port → Port
-arm_receive_on Idle p = cond (arms p) (with_rx p (Busy (armed (format_of p) (next_fall p)))) p
-arm_receive_on (Busy r) p = p
+abbrev pub arm_receive_on : Option Rx → Port → Port
+arm_receive_on None p = cond (arms p) (with_rx p (Some (armed (format_of p) (next_fall p)))) p
+arm_receive_on (Some r) p = p
 
 unfoldable pub arm_receive : Port → Port
 arm_receive p = arm_receive_on p.rx p
@@ -42,14 +40,14 @@ complete_receive p r =
     (with_ssr (with_rdr p r.value) (bit_or p.ssr r.error)))
 
 abbrev pub after_sample : Sampled → Port → Port
-after_sample Dropped p = with_rx p Idle
-after_sample (Onward r) p = with_rx p (Busy r)
-after_sample (Whole r) p = complete_receive (with_rx p Idle) r
+after_sample Dropped p = with_rx p None
+after_sample (Onward r) p = with_rx p (Some r)
+after_sample (Whole r) p = complete_receive (with_rx p None) r
 
 -- the receiver's step: a sample, at the half on which one is due
-abbrev pub advance_rx_on : Receiver → Port → Port
-advance_rx_on Idle p = p
-advance_rx_on (Busy r) p =
+abbrev pub advance_rx_on : Option Rx → Port → Port
+advance_rx_on None p = p
+advance_rx_on (Some r) p =
     cond (due_now r.next p.half) (after_sample (sample (format_of p) (input_level p) p.half r) p) p
 
 unfoldable pub advance_rx : Port → Port

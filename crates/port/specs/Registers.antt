@@ -1,22 +1,16 @@
 -- The nine registers (document 01, "The nine registers"): reading, writing, and the status write.
 -- Assumes nothing.
-use Rattle.std.specs.Prelude.{ℕ, ◌+◌, ◌-◌, ◌*◌, Bool, true, cond, not, ◌&&◌, ◌||◌, ◌==◌, bit_and, bit_or, nat_le}
+use Rattle.std.specs.Prelude.{ℕ, ◌+◌, ◌-◌, ◌*◌, Bool, true, cond, not, ◌&&◌, ◌||◌, ◌==◌, bit_and, bit_or, nat_le, Option, None, Some, is_some}
 use Rattle.frame.specs.Frame.{has, cells}
 use Rattle.port.specs.declared.Port.{Port}
-use Rattle.shift.specs.declared.Due.{Due}
-use Rattle.shift.specs.declared.Due.TheVariants.{Never}
-use Rattle.shift.specs.declared.Holding.TheVariants.{Empty, Byte}
-use Rattle.shift.specs.declared.Loaded.{Loaded}
-use Rattle.shift.specs.declared.Loaded.TheVariants.{Nothing, Next}
-use Rattle.shift.specs.declared.Receiver.TheVariants.{Idle}
 use Rattle.shift.specs.declared.Tx.{Tx}
 use Rattle.shift.specs.declared.Tx.TheVariants.{Off, Blocked, Mark, Start, Data, Tail}
 use Rattle.port.specs.Fields.{with_spcr, with_smr, with_brr, with_scr, with_tdr, with_ssr, with_semr, with_ircr, with_seen, with_uart, with_tx, with_rx, with_holding, with_high, with_sync_next}
 use Rattle.port.specs.Baud.{format_of, external, boundary}
 use Rattle.port.specs.Receiver.{arm_receive}
-use Rattle.shift.specs.Sender.{holds}
 use Rattle.port.specs.Sender.{tailed, try_start}
 use Rattle.port.specs.Clocked.{refresh_sync_clock}
+use Rattle.shift.specs.declared.Character.{Character}
 
 -- the nine addresses: SPCR; SMR, BRR, SCR, TDR, SSR, RDR; SEMR, IRCR
 abbrev pub handles : ℕ → Bool
@@ -43,7 +37,7 @@ read a p =
 -- ---- writing
 -- TE off drops sender and holding place, line to mark, SSR gains TDRE and TEND
 abbrev pub sender_off : Port → Port
-sender_off p = with_holding (with_tx (with_ssr (with_uart p true) (bit_or p.ssr 0x84)) Off) Empty
+sender_off p = with_holding (with_tx (with_ssr (with_uart p true) (bit_or p.ssr 0x84)) Off) None
 
 -- TE set in start-stop form waits to a boundary and then one whole character of mark
 abbrev pub sender_on : Port → Port
@@ -56,7 +50,7 @@ scr_tx was v p =
 
 -- RE off drops the receiver
 abbrev pub scr_rx : ℕ → Port → Port
-scr_rx v p = cond (has v 0x10) p (with_rx p Idle)
+scr_rx v p = cond (has v 0x10) p (with_rx p None)
 
 unfoldable pub write_scr : ℕ → Port → Port
 write_scr v p = scr_rx v (scr_tx (has p.scr 0x20) v (with_scr p (bit_and v 0xf7)))
@@ -65,7 +59,7 @@ write_scr v p = scr_rx v (scr_tx (has p.scr 0x20) v (with_scr p (bit_and v 0xf7)
 unfoldable pub write_tdr : ℕ → Port → Port
 write_tdr v p =
     cond (has p.scr 0x20)
-    (with_holding (with_seen (with_ssr (with_tdr p v) (bit_and p.ssr 0x7b)) (bit_and p.seen 0x7b)) (Byte v))
+    (with_holding (with_seen (with_ssr (with_tdr p v) (bit_and p.ssr 0x7b)) (bit_and p.seen 0x7b)) (Some v))
     (with_tdr p v)
 
 -- SSR without the bits of 0xf8 that were seen and are written 0
@@ -76,8 +70,8 @@ cleared v p = bit_and p.ssr (255 - bit_and (bit_and p.seen (255 - v)) 0xf8)
 unfoldable pub status_with : ℕ → ℕ → Port → Port
 status_with ssr v p =
     cond (has p.scr 0x20)
-    (cond (not (has ssr 0x80) && not (holds p.holding))
-    (with_holding (with_seen (with_ssr p (bit_and ssr 0xfb)) (bit_and p.seen v)) (Byte p.tdr))
+    (cond (not (has ssr 0x80) && not (is_some p.holding))
+    (with_holding (with_seen (with_ssr p (bit_and ssr 0xfb)) (bit_and p.seen v)) (Some p.tdr))
     (with_seen (with_ssr p ssr) (bit_and p.seen v)))
     (with_seen (with_ssr p (bit_or ssr 0x80)) (bit_and p.seen v))
 
@@ -97,12 +91,12 @@ stored a v p =
 
 -- the external clock is chosen: the phase is the clock pin's, and no edge is planned
 unfoldable pub connect : Bool → Port → Port
-connect was p = cond (not was && external p) (with_sync_next (with_high p p.input_clock) Never) p
+connect was p = cond (not was && external p) (with_sync_next (with_high p p.input_clock) None) p
 
 -- a tail with no next word takes what the holding place has
-abbrev pub fill_tail : Loaded → Due → Port → Port
-fill_tail Nothing next p = cond (holds p.holding) (tailed p next) p
-fill_tail (Next ch) next p = p
+abbrev pub fill_tail : Option Character → Option ℕ → Port → Port
+fill_tail None next p = cond (is_some p.holding) (tailed p next) p
+fill_tail (Some ch) next p = p
 
 abbrev pub load_tail_on : Tx → Port → Port
 load_tail_on Off p = p

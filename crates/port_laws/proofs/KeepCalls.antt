@@ -1,5 +1,6 @@
 -- The field test is kept by register reads and writes, pins, power, and time inside a half.
 -- Assumes nothing.
+use Rattle.std.specs.Prelude.{None, is_some}
 use mathlib.Core.Path.{◌≡◌, refl, sym, ap, ◌∙◌, subst}
 use mathlib.Core.Logic.{◌≢◌, ◌⊎◌, inl, inr, ⊎_elim}
 use Prim.Native.Nat.{ℕ, zero, suc, ◌+◌, ◌*◌, ◌≤◌, ◌<◌, zero-le}
@@ -13,11 +14,9 @@ use Rattle.frame.specs.Frame.{has, differ, one_if, cells}
 use Rattle.frame.proofs.Truth.{and_left, and_right, and_both, or_cases, by_flag}
 use Rattle.frame.proofs.Words.{Shape, shape, format_good}
 use Rattle.port.specs.declared.Port.{Port}
-use Rattle.shift.specs.declared.Receiver.TheVariants.{Idle}
 use Rattle.port.specs.Fields.{with_spcr, with_smr, with_brr, with_scr, with_tdr, with_ssr, with_semr, with_ircr, with_seen, with_rx, with_input, with_input_clock}
 use Rattle.port.specs.Baud.{format_of, external, running, boundary, edge_counted, edge_counts}
 use Rattle.port.specs.Receiver.{arm_receive}
-use Rattle.shift.specs.Sender.{holds}
 use Rattle.port.specs.Sender.{try_start}
 use Rattle.port.specs.Clocked.{refresh_sync_clock, sync_edge}
 use Rattle.port.specs.Half.{process_basic, inside, uncounted}
@@ -116,7 +115,7 @@ module _ (h : ℕ) (p : Port) (k : Kept h p) where
       let c : bit_and (cleared v p) 3 ≡ 0 = and_clear p.ssr _ 3 side.flags in
       let n : bit_and (bit_and p.seen v) 3 ≡ 0 = and_clear p.seen v 3 side.seen_flags in
       both_arms (Kept h) (has p.scr 0x20) _ _
-      (both_arms (Kept h) (not (has (cleared v p) 0x80) && not (holds p.holding)) _ _
+      (both_arms (Kept h) (not (has (cleared v p) 0x80) && not (is_some p.holding)) _ _
       (kept_of h _ sends (side_flags h h (bit_and (cleared v p) 0xfb) (bit_and p.seen v) p (and_clear (cleared v p) 0xfb 3 c) n side) k.due) (flags_kept (cleared v p) (bit_and p.seen v) c n))
       (flags_kept (bit_or (cleared v p) 0x80) (bit_and p.seen v) (or_clear (cleared v p) 0x80 3 c refl) n)
 
@@ -156,7 +155,7 @@ module _ (h : ℕ) (p : Port) (k : Kept h p) where
   scr_kept v =
       let q : Port = scr_tx (has p.scr 0x20) v (with_scr_byte v) in
       let m : Kept h q = scr_tx_kept v in
-      both_arms (Kept h) (has v 0x10) q (with_rx q Idle) m (kept_of h (with_rx q Idle) m.ok.sends (side_rx h h h q Idle tt m.ok.side) m.due)
+      both_arms (Kept h) (has v 0x10) q (with_rx q None) m (kept_of h (with_rx q None) m.ok.sends (side_rx h h h q None tt m.ok.side) m.due)
 
   stored_kept : (a v : ℕ) → handles a ≡ true → (eqb a 0xffa7 && leb 128 v) ≡ false → Kept h (stored a v p)
   unfolding stored

@@ -1,14 +1,14 @@
 -- The field test is kept by one half, and by any number of them.
 -- Assumes nothing.
+use Rattle.std.specs.Option.{option_or}
+use Rattle.std.specs.Prelude.{Option, None, Some}
 use mathlib.Core.Path.{◌≡◌, sym, ap, subst}
 use Prim.Native.Nat.{ℕ, zero, suc, ◌+◌, ◌≤◌}
 use native.Mathlib.Omega.{arith}
 use mathlib.Core.Bool.{Bool, true, false, not}
 use Rattle.port.specs.declared.Port.{Port}
-use Rattle.shift.specs.declared.Due.{Due}
-use Rattle.shift.specs.declared.Due.TheVariants.{Never, At}
 use Rattle.port.specs.Baud.{counted, external}
-use Rattle.shift.specs.Due.{due_now, due_or}
+use Rattle.shift.specs.Due.{due_now}
 use Rattle.port.specs.Receiver.{arm_receive, advance_rx}
 use Rattle.port.specs.Sender.{advance_tx}
 use Rattle.port.specs.Clocked.{sync_needed, with_clock, refresh_sync_clock, receive_bit, sync_edge}
@@ -50,7 +50,7 @@ basic_first h p t d =
 
 -- ---- the clock of clocked form
 -- with another clock level or due half nothing else changes
-pub ok_clock : (h : ℕ) (p : Port) (d : Due) (b : Bool) → Ok h p → Ok h (with_clock p d b)
+pub ok_clock : (h : ℕ) (p : Port) (d : Option ℕ) (b : Bool) → Ok h p → Ok h (with_clock p d b)
 ok_clock h p d b o = record { sends = o.sends; side = o.side }
 
 pub ok_refresh : (h : ℕ) (p : Port) → Ok h p → Ok h (refresh_sync_clock p)
@@ -64,9 +64,9 @@ pub due_refresh : (k : ℕ) (p : Port) → k ≤ p.half → p.half ≤ suc k →
 unfolding refresh_sync_clock
 due_refresh k p lo up m = both_arms (DueNext k) (external p) _ _ tt (both_arms (DueNext k) (sync_needed p) _ _ (go p.sync_next m) tt)
   where
-    go : (d : Due) → DueMaybe k d → DueMaybe k (due_or d (p.half + 2))
-    go Never f = (omega arith, omega arith)
-    go (At n) f = f
+    go : (d : Option ℕ) → DueMaybe k d → DueMaybe k (option_or d (Some (p.half + 2)))
+    go None f = (omega arith, omega arith)
+    go (Some n) f = f
 
 pub kept_refresh : (h : ℕ) (p : Port) → Ok h p → DueNext h p → Kept h (refresh_sync_clock p)
 kept_refresh h p o m =
@@ -97,13 +97,13 @@ ok_sync_edge false h p o =
 ok_clocked_edge : (h : ℕ) (p : Port) → Ok h p → Ok h (clocked_edge p)
 unfolding clocked_edge
 ok_clocked_edge h p o =
-    both_arms (Ok h) (due_now p.sync_next p.half) _ p (ok_sync_edge (not p.sck) h (with_clock p Never (not p.sck)) (ok_clock h p Never (not p.sck) o)) o
+    both_arms (Ok h) (due_now p.sync_next p.half) _ p (ok_sync_edge (not p.sck) h (with_clock p None (not p.sck)) (ok_clock h p None (not p.sck) o)) o
 
 due_clocked_edge : (k : ℕ) (p : Port) → p.half ≡ suc k → DueNext k p → DueNext (suc k) (clocked_edge p)
 unfolding clocked_edge
 due_clocked_edge k p e m =
     by_cond (DueNext (suc k)) (due_now p.sync_next p.half) _ p
-    (λ b. sync_edge_keeps (DueNext (suc k)) (due_sender (suc k)) (due_receiver (suc k)) (not p.sck) (with_clock p Never (not p.sck)) tt)
+    (λ b. sync_edge_keeps (DueNext (suc k)) (due_sender (suc k)) (due_receiver (suc k)) (not p.sck) (with_clock p None (not p.sck)) tt)
     (λ b. later_maybe k p.sync_next m (subst (λ (h : ℕ). due_now p.sync_next h ≡ false) e b))
 
 -- ---- one half

@@ -1,5 +1,6 @@
 -- The numbers that the field test leaves open stay in their ranges: sender, receiver, half, registers, pins and power.
 -- Assumes nothing.
+use Rattle.std.specs.Prelude.{Option, None, Some, is_some}
 use mathlib.Core.Path.{◌≡◌, refl, sym, ap, ◌∙◌}
 use Prim.Native.Nat.{ℕ, zero, suc, ◌+◌, ◌%◌, ◌^◌, ◌≤◌, ◌<◌}
 use native.Mathlib.Omega.{arith}
@@ -12,18 +13,12 @@ use lib.IntN.{ℤ, pos, negsuc}
 use borrow.Author.Tests.{leb-true, leb-false, ltb-true}
 use Rattle.frame.specs.declared.Format.{Format}
 use Rattle.frame.specs.Frame.{has, differ, one_if}
-use Rattle.shift.specs.declared.Due.TheVariants.{Never}
-use Rattle.shift.specs.declared.Holding.{Holding}
-use Rattle.shift.specs.declared.Holding.TheVariants.{Empty, Byte}
 use Rattle.shift.specs.declared.Rx.{Rx}
-use Rattle.shift.specs.declared.Receiver.{Receiver}
-use Rattle.shift.specs.declared.Receiver.TheVariants.{Idle, Busy}
 use Rattle.shift.specs.declared.Sampled.{Sampled}
 use Rattle.shift.specs.declared.Sampled.TheVariants.{Dropped, Onward, Whole}
 use Rattle.shift.specs.Private.Ready.{PlacedIn}
 use Rattle.shift.specs.Valid.{position_valid}
 use Rattle.shift.specs.Due.{due_now}
-use Rattle.shift.specs.Sender.{holds}
 use Rattle.shift.specs.Receiver.{armed, bit_at, sample_at, sample, last_bit, bit_taken, clocked_word, rx_due_on}
 use Rattle.port.specs.declared.Port.{Port}
 use Rattle.port.specs.Fields.{with_rx, with_ssr, with_rdr, with_received, with_seen, with_scr, with_input, with_input_clock}
@@ -62,7 +57,7 @@ module _ (p : Port) (k : InRange p) where
   in_ssr : (s : ℕ) → s < 256 → InRange (with_ssr p s)
   in_ssr s e = in_flags s p.seen e k.seen<
 
-  in_rx : (x : Receiver) → WordInRange x → InRange (with_rx p x)
+  in_rx : (x : Option Rx) → WordInRange x → InRange (with_rx p x)
   in_rx x e =
       record { smr< = k.smr<; brr< = k.brr<; scr< = k.scr<; tdr< = k.tdr<; ssr< = k.ssr<; rdr< = k.rdr<; seen< = k.seen<; held_in = k.held_in; word_in = e; transmitted< = k.transmitted<; received< = k.received< }
 
@@ -84,8 +79,8 @@ in_sender =
 -- ---- a word in the receiver
 abbrev SampleInRange : Sampled → Type 0
 SampleInRange Dropped = Unit {0}
-SampleInRange (Onward r) = WordInRange (Busy r)
-SampleInRange (Whole r) = WordInRange (Busy r)
+SampleInRange (Onward r) = WordInRange (Some r)
+SampleInRange (Whole r) = WordInRange (Some r)
 
 -- the bit of one of eight cells
 bit_byte : (j : ℕ) → j < 8 → 2 ^ j < 256
@@ -94,7 +89,7 @@ bit_byte j h = pow-lt {i = j} {j = 8} h
 with_flag : (b : Bool) (x y : ℕ) → x < 256 → y < 256 → cond b (bit_or x y) x < 256
 with_flag b x y h k = both_arms (λ (n : ℕ). n < 256) b (bit_or x y) x (or_byte x y h k) h
 
-sample_in : (z : ℤ) (now : Format) (high : Bool) (half : ℕ) (r : Rx) → r.format.«data» ≤ 8 → WordInRange (Busy r) → SampleInRange (sample_at z now high half r)
+sample_in : (z : ℤ) (now : Format) (high : Bool) (half : ℕ) (r : Rx) → r.format.«data» ≤ 8 → WordInRange (Some r) → SampleInRange (sample_at z now high half r)
 unfolding sample_at
 sample_in (negsuc (suc (suc n))) now high half r d w = tt
 sample_in (negsuc (suc zero)) now high half r d w = both_arms SampleInRange (high || now.synchronous) _ _ tt w
@@ -117,11 +112,11 @@ in_arm : (p : Port) → InRange p → InRange (arm_receive p)
 unfolding arm_receive
 in_arm p k = go p.rx
   where
-    go : (x : Receiver) → InRange (arm_receive_on x p)
-    go Idle = both_arms InRange (arms p) _ p (in_rx p k (Busy (armed (format_of p) (next_fall p))) (lit< tt, lit< tt)) k
-    go (Busy r) = k
+    go : (x : Option Rx) → InRange (arm_receive_on x p)
+    go None = both_arms InRange (arms p) _ p (in_rx p k (Some (armed (format_of p) (next_fall p))) (lit< tt, lit< tt)) k
+    go (Some r) = k
 
-in_complete : (p : Port) (r : Rx) → WordInRange (Busy r) → InRange p → InRange (complete_receive p r)
+in_complete : (p : Port) (r : Rx) → WordInRange (Some r) → InRange p → InRange (complete_receive p r)
 unfolding complete_receive
 in_complete p r w k =
     both_arms InRange (has p.ssr 0x40) _ _
@@ -141,29 +136,29 @@ module _ {n : ℕ} {p : Port} (r : Ready n p) (k : InRange p) where
   in_advance_rx = go p.rx r.placed k.word_in
     where
       out : (o : Sampled) → SampleInRange o → InRange (after_sample o p)
-      out Dropped w = in_rx p k Idle tt
-      out (Onward x) w = in_rx p k (Busy x) w
-      out (Whole x) w = in_complete (with_rx p Idle) x w (in_rx p k Idle tt)
+      out Dropped w = in_rx p k None tt
+      out (Onward x) w = in_rx p k (Some x) w
+      out (Whole x) w = in_complete (with_rx p None) x w (in_rx p k None tt)
 
-      go : (x : Receiver) → PlacedIn x → WordInRange x → InRange (advance_rx_on x p)
-      go Idle h w = k
-      go (Busy x) h w =
+      go : (x : Option Rx) → PlacedIn x → WordInRange x → InRange (advance_rx_on x p)
+      go None h w = k
+      go (Some x) h w =
           both_arms InRange (due_now x.next p.half) _ p
           (out (sample (format_of p) (input_level p) p.half x) (sample_in x.position (format_of p) (input_level p) p.half x h.bounded.data≤8 w)) k
 
-  in_take : (x : Rx) → bit_at x.position < 256 → WordInRange (Busy x) → InRange (take_bit p x)
+  in_take : (x : Rx) → bit_at x.position < 256 → WordInRange (Some x) → InRange (take_bit p x)
   unfolding take_bit
   in_take x b w =
-      let taken : WordInRange (Busy (bit_taken (input_level p) x)) = (with_flag (input_level p) x.value (bit_at x.position) w.0 b, w.1) in
-      both_arms InRange (last_bit x.position) _ _ (in_complete (with_rx p Idle) (bit_taken (input_level p) x) taken (in_rx p k Idle tt)) (in_rx p k (Busy (bit_taken (input_level p) x)) taken)
+      let taken : WordInRange (Some (bit_taken (input_level p) x)) = (with_flag (input_level p) x.value (bit_at x.position) w.0 b, w.1) in
+      both_arms InRange (last_bit x.position) _ _ (in_complete (with_rx p None) (bit_taken (input_level p) x) taken (in_rx p k None tt)) (in_rx p k (Some (bit_taken (input_level p) x)) taken)
 
   in_receive_bit : InRange (receive_bit p)
   unfolding receive_bit
   in_receive_bit = both_arms InRange (has p.scr 0x10 && error_free p) _ p (go p.rx r.placed k.word_in) k
     where
-      go : (x : Receiver) → PlacedIn x → WordInRange x → InRange (receive_bit_on x p)
-      go Idle h w = both_arms InRange (format_of p).synchronous _ p (in_take (clocked_word (format_of p)) (lit< tt) (lit< tt, lit< tt)) k
-      go (Busy x) h w =
+      go : (x : Option Rx) → PlacedIn x → WordInRange x → InRange (receive_bit_on x p)
+      go None h w = both_arms InRange (format_of p).synchronous _ p (in_take (clocked_word (format_of p)) (lit< tt) (lit< tt, lit< tt)) k
+      go (Some x) h w =
           by_cond InRange x.format.synchronous _ p (λ s. in_take x (clocked_byte x.position x.format s h.place) w) (λ s. k)
 
 -- ---- one half
@@ -187,7 +182,7 @@ module _ {n : ℕ} {p : Port} (r : Ready n p) (k : InRange p) where
       let q : Port = process_basic p in
       let kq : InRange q = in_basic r k in
       in_refresh (clocked_edge q)
-      (both_arms InRange (due_now q.sync_next q.half) _ q (in_sync_edge (keep_clock (keep_process_basic r) Never (not q.sck)) kq (not q.sck)) kq)
+      (both_arms InRange (due_now q.sync_next q.half) _ q (in_sync_edge (keep_clock (keep_process_basic r) None (not q.sck)) kq (not q.sck)) kq)
 
   -- the basic work on the way to `advance` keeps it too
   in_sync : InRange (sync p)
@@ -222,8 +217,8 @@ module _ (p : Port) (k : InRange p) where
       both_arms InRange (eqb a 0xff9c) _ _ (in_flags p k p.ssr p.ssr k.ssr< k.ssr<)
       (both_arms InRange (eqb a 0xff9d) _ p (in_flags p k (bit_and p.ssr 0xbf) (bit_and p.seen 0xbf) (and_byte p.ssr 0xbf k.ssr<) (and_byte p.seen 0xbf k.seen<)) k)
 
-  -- bytes that a write stores, with what it holds and with the flags after it
-  in_stored : (smr brr scr tdr ssr seen : ℕ) (held : Holding) → smr < 256 → brr < 256 → scr < 256 → tdr < 256 → ssr < 256 → seen < 256 → HeldInRange held
+  -- bytes that a write stores, with what it is_some and with the flags after it
+  in_stored : (smr brr scr tdr ssr seen : ℕ) (held : Option ℕ) → smr < 256 → brr < 256 → scr < 256 → tdr < 256 → ssr < 256 → seen < 256 → HeldInRange held
       → Ranges smr brr scr tdr ssr p.rdr seen held p.rx p.transmitted p.received
   in_stored smr brr scr tdr ssr seen held e1 e2 e3 e4 e5 e6 e7 =
       record { smr< = e1; brr< = e2; scr< = e3; tdr< = e4; ssr< = e5; rdr< = k.rdr<; seen< = e6; held_in = e7; word_in = k.word_in; transmitted< = k.transmitted<; received< = k.received< }
@@ -233,7 +228,7 @@ module _ (p : Port) (k : InRange p) where
     unfolding write_tdr
     in_tdr =
         both_arms InRange (has p.scr 0x20) _ _
-        (in_stored p.smr p.brr p.scr v (bit_and p.ssr 0x7b) (bit_and p.seen 0x7b) (Byte v) k.smr< k.brr< k.scr< h (and_byte p.ssr 0x7b k.ssr<) (and_byte p.seen 0x7b k.seen<) h)
+        (in_stored p.smr p.brr p.scr v (bit_and p.ssr 0x7b) (bit_and p.seen 0x7b) (Some v) k.smr< k.brr< k.scr< h (and_byte p.ssr 0x7b k.ssr<) (and_byte p.seen 0x7b k.seen<) h)
         (in_stored p.smr p.brr p.scr v p.ssr p.seen p.holding k.smr< k.brr< k.scr< h k.ssr< k.seen< k.held_in)
 
     in_status : InRange (status_write v p)
@@ -242,8 +237,8 @@ module _ (p : Port) (k : InRange p) where
         let c : cleared v p < 256 = and_byte p.ssr _ k.ssr< in
         let n : bit_and p.seen v < 256 = and_byte p.seen v k.seen< in
         both_arms InRange (has p.scr 0x20) _ _
-        (both_arms InRange (not (has (cleared v p) 0x80) && not (holds p.holding)) _ _
-        (in_stored p.smr p.brr p.scr p.tdr (bit_and (cleared v p) 0xfb) (bit_and p.seen v) (Byte p.tdr) k.smr< k.brr< k.scr< k.tdr< (and_byte (cleared v p) 0xfb c) n k.tdr<)
+        (both_arms InRange (not (has (cleared v p) 0x80) && not (is_some p.holding)) _ _
+        (in_stored p.smr p.brr p.scr p.tdr (bit_and (cleared v p) 0xfb) (bit_and p.seen v) (Some p.tdr) k.smr< k.brr< k.scr< k.tdr< (and_byte (cleared v p) 0xfb c) n k.tdr<)
         (in_flags p k (cleared v p) (bit_and p.seen v) c n))
         (in_flags p k (bit_or (cleared v p) 0x80) (bit_and p.seen v) (or_byte (cleared v p) 0x80 c (lit< tt)) n)
 
@@ -256,8 +251,8 @@ module _ (p : Port) (k : InRange p) where
         let q : Port = scr_tx (has p.scr 0x20) v (with_scr p (bit_and v 0xf7)) in
         let kq : InRange q
         = both_arms InRange (has v 0x20) _ _ (both_arms InRange (not (has p.scr 0x20) && not (format_of p).synchronous) _ _ with with)
-        (in_stored p.smr p.brr (bit_and v 0xf7) p.tdr (bit_or p.ssr 0x84) p.seen Empty k.smr< k.brr< scr k.tdr< (or_byte p.ssr 0x84 k.ssr< (lit< tt)) k.seen< tt) in
-        both_arms InRange (has v 0x10) q (with_rx q Idle) kq (in_rx q kq Idle tt)
+        (in_stored p.smr p.brr (bit_and v 0xf7) p.tdr (bit_or p.ssr 0x84) p.seen None k.smr< k.brr< scr k.tdr< (or_byte p.ssr 0x84 k.ssr< (lit< tt)) k.seen< tt) in
+        both_arms InRange (has v 0x10) q (with_rx q None) kq (in_rx q kq None tt)
 
     in_store : (a : ℕ) → Within (stored a v p)
     unfolding stored

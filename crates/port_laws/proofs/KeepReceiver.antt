@@ -1,5 +1,6 @@
 -- The field test is kept: all but the sender and the clocked edge, that is the receiver's word, the registers, and where the present cell began.
 -- Assumes nothing.
+use Rattle.std.specs.Prelude.{Option, None, Some}
 use mathlib.Core.Path.{◌≡◌, refl, sym, ap, ◌∙◌, subst}
 use mathlib.Core.Logic.{◌≢◌, ◌⊎◌, inl, inr}
 use Prim.Native.Nat.{ℕ, zero, suc, ◌+◌, ◌≤◌}
@@ -16,9 +17,6 @@ use Rattle.frame.proofs.Truth.{and_left, and_right}
 use Rattle.frame.proofs.Words.{shape, format_good}
 use Rattle.port.specs.declared.Port.{Port}
 use Rattle.shift.specs.declared.Rx.{Rx}
-use Rattle.shift.specs.declared.Due.TheVariants.{At}
-use Rattle.shift.specs.declared.Receiver.{Receiver}
-use Rattle.shift.specs.declared.Receiver.TheVariants.{Idle, Busy}
 use Rattle.shift.specs.declared.Sampled.{Sampled}
 use Rattle.shift.specs.declared.Sampled.TheVariants.{Dropped, Onward, Whole}
 use Rattle.port.specs.Fields.{with_rx, with_ssr}
@@ -49,9 +47,9 @@ pub record RxGood (h : ℕ) (r : Rx) : Type 0 where
   pub error : (r.error ≡ 0) ⊎ (r.error ≡ 8)
   pub due : DueBy r.format.synchronous h r.next
 
-abbrev pub RxFits : ℕ → Receiver → Type 0
-RxFits h Idle = Unit {0}
-RxFits h (Busy r) = RxGood h r
+abbrev pub RxFits : ℕ → Option Rx → Type 0
+RxFits h None = Unit {0}
+RxFits h (Some r) = RxGood h r
 
 pub record Storable (spcr scr semr ircr : ℕ) : Type 0 where
   pub spcr_bits : bit_or (bit_and spcr 0x13) 0xc0 ≡ spcr
@@ -60,7 +58,7 @@ pub record Storable (spcr scr semr ircr : ℕ) : Type 0 where
   pub ircr_bits : bit_and ircr 0x70 ≡ ircr
 
 -- the half count is h, the receiver's word is due after k. A record of fields, so that a port with other fields changed has the same one
-pub record Beside (h k half : ℕ) (x : Receiver) (start ssr seen spcr scr semr ircr : ℕ) : Type 0 where
+pub record Beside (h k half : ℕ) (x : Option Rx) (start ssr seen spcr scr semr ircr : ℕ) : Type 0 where
   pub at : half ≡ h
   pub fits : RxFits k x
   pub began : start ≤ h
@@ -79,7 +77,7 @@ side_flags h k s n q e g d = record { at = d.at; fits = d.fits; began = d.began;
 pub side_ssr : (h k s : ℕ) (q : Port) → bit_and s 3 ≡ 0 → Side h k q → Side h k (with_ssr q s)
 side_ssr h k s q e d = side_flags h k s q.seen q e d.seen_flags d
 
-pub side_rx : (h k k' : ℕ) (q : Port) (x : Receiver) → RxFits k' x → Side h k q → Side h k' (with_rx q x)
+pub side_rx : (h k k' : ℕ) (q : Port) (x : Option Rx) → RxFits k' x → Side h k q → Side h k' (with_rx q x)
 side_rx h k k' q x f d = record { at = d.at; fits = f; began = d.began; flags = d.flags; seen_flags = d.seen_flags; stored = d.stored }
 
 pub side_stored : (h k spcr scr semr ircr : ℕ) (q : Port) → Storable spcr scr semr ircr → Side h k q
@@ -111,11 +109,11 @@ side_arm h p d = go p.rx
     plain e =
         not-true (format_of p).synchronous (and_left (not (format_of p).synchronous) (not (input_level p)) (and_right (error_free p) _ (and_right (has p.scr 0x10) _ e)))
 
-    go : (x : Receiver) → Side h h (arm_receive_on x p)
-    go Idle =
+    go : (x : Option Rx) → Side h h (arm_receive_on x p)
+    go None =
         by_cond (Side h h) (arms p) _ p
-        (λ e. side_rx h h h p (Busy (armed (format_of p) (next_fall p))) (record { format = format_good p.smr p.semr; place = plain e; error = inl refl; due = (plain e, ahead) }) d) (λ e. d)
-    go (Busy r) = d
+        (λ e. side_rx h h h p (Some (armed (format_of p) (next_fall p))) (record { format = format_good p.smr p.semr; place = plain e; error = inl refl; due = (plain e, ahead) }) d) (λ e. d)
+    go (Some r) = d
 
 -- ---- a word ends
 error_clear : (e : ℕ) → (e ≡ 0) ⊎ (e ≡ 8) → bit_and e 3 ≡ 0
@@ -149,7 +147,7 @@ plain_place f j c l = subst (λ (b : Bool). j ≤ cond b 7 (f.«data» + one_if 
 -- a start-stop word, sampled at the half suc h
 module _ (now : Format) (high : Bool) (h : ℕ) (r : Rx) (n : format_valid now ≡ true) (f : format_valid r.format ≡ true)
     (c : r.format.synchronous ≡ false) (e : (r.error ≡ 0) ⊎ (r.error ≡ 8)) where
-  cell_due : DueBy r.format.synchronous (suc h) (At (suc h + r.format.half_bit))
+  cell_due : DueBy r.format.synchronous (suc h) (Some (suc h + r.format.half_bit))
   cell_due = (c, (omega (arith, (shape r.format f).long), omega (arith, (shape r.format f).short)))
 
   sample_good : (z : ℤ) → SampleGood (suc h) (sample_at z now high (suc h) r)
@@ -172,35 +170,35 @@ module _ (now : Format) (high : Bool) (h : ℕ) (r : Rx) (n : format_valid now �
       (λ g. stop_error high r.error (error_clear r.error e)))
 
 sampled_side : (h k : ℕ) (o : Sampled) (p : Port) → SampleGood h o → Side h k p → Side h h (after_sample o p)
-sampled_side h k Dropped p g d = side_rx h k h p Idle tt d
-sampled_side h k (Onward r) p g d = side_rx h k h p (Busy r) g d
-sampled_side h k (Whole r) p g d = side_complete h h (with_rx p Idle) r g (side_rx h k h p Idle tt d)
+sampled_side h k Dropped p g d = side_rx h k h p None tt d
+sampled_side h k (Onward r) p g d = side_rx h k h p (Some r) g d
+sampled_side h k (Whole r) p g d = side_complete h h (with_rx p None) r g (side_rx h k h p None tt d)
 
 -- ---- a counted half
 pub side_advance : (h : ℕ) (p : Port) → Side (suc h) h p → Side (suc h) (suc h) (advance_rx p)
 unfolding advance_rx
 side_advance h p d = go p.rx refl d.fits
   where
-    stays : (x : Receiver) → p.rx ≡ x → RxFits (suc h) x → Side (suc h) (suc h) p
+    stays : (x : Option Rx) → p.rx ≡ x → RxFits (suc h) x → Side (suc h) (suc h) p
     stays x q f = side_rx (suc h) h (suc h) p p.rx (subst (RxFits (suc h)) (sym q) f) d
 
-    go : (x : Receiver) → p.rx ≡ x → RxFits h x → Side (suc h) (suc h) (advance_rx_on x p)
-    go Idle q f = stays Idle q tt
-    go (Busy r) q f =
+    go : (x : Option Rx) → p.rx ≡ x → RxFits h x → Side (suc h) (suc h) (advance_rx_on x p)
+    go None q f = stays None q tt
+    go (Some r) q f =
         by_cond (Side (suc h) (suc h)) (due_now r.next p.half) _ p
         (λ b. sampled_side (suc h) h (sample (format_of p) (input_level p) p.half r) p
         (subst (λ (k : ℕ). SampleGood (suc h) (sample (format_of p) (input_level p) k r)) (sym d.at)
         (sample_good (format_of p) (input_level p) h r (format_good p.smr p.semr) f.format (plain_due r.format.synchronous h p.half r.next f.due b) f.error r.position)) d)
-        (λ b. stays (Busy r) q
+        (λ b. stays (Some r) q
         (record { format = f.format; place = f.place; error = f.error; due = later_by r.format.synchronous h r.next f.due (subst (λ (k : ℕ). due_now r.next k ≡ false) d.at b) }))
 
 -- the same half again: nothing is due
 pub rx_not_due : (h : ℕ) (p : Port) → Side h h p → due_now (rx_next p.rx) p.half ≡ false
 rx_not_due h p d = go p.rx d.fits
   where
-    go : (x : Receiver) → RxFits h x → due_now (rx_next x) p.half ≡ false
-    go Idle f = refl
-    go (Busy r) f = not_due h p.half r.next d.at (by_maybe r.format.synchronous h r.next f.due)
+    go : (x : Option Rx) → RxFits h x → due_now (rx_next x) p.half ≡ false
+    go None f = refl
+    go (Some r) f = not_due h p.half r.next d.at (by_maybe r.format.synchronous h r.next f.due)
 
 -- ---- the clocked edge
 bit_good : (h : ℕ) (high : Bool) (r : Rx) → r.format.synchronous ≡ true → RxGood h r → last_bit r.position ≡ false → RxGood h (bit_taken high r)
@@ -220,8 +218,8 @@ side_take_bit : (h : ℕ) (p : Port) (r : Rx) → r.format.synchronous ≡ true 
 unfolding take_bit
 side_take_bit h p r c g d =
     by_cond (Side h h) (last_bit r.position) _ _
-    (λ b. side_complete h h (with_rx p Idle) (bit_taken (input_level p) r) (error_clear r.error g.error) (side_rx h h h p Idle tt d))
-    (λ b. side_rx h h h p (Busy (bit_taken (input_level p) r)) (bit_good h (input_level p) r c g b) d)
+    (λ b. side_complete h h (with_rx p None) (bit_taken (input_level p) r) (error_clear r.error g.error) (side_rx h h h p None tt d))
+    (λ b. side_rx h h h p (Some (bit_taken (input_level p) r)) (bit_good h (input_level p) r c g b) d)
 
 pub side_receive_bit : (h : ℕ) (p : Port) → Side h h p → Side h h (receive_bit p)
 unfolding receive_bit
@@ -230,8 +228,8 @@ side_receive_bit h p d = by_cond (Side h h) (has p.scr 0x10 && error_free p) _ p
     first : 0 ≤ last_position (format_of p)
     first = omega arith
 
-    go : (x : Receiver) → RxFits h x → Side h h (receive_bit_on x p)
-    go Idle f =
+    go : (x : Option Rx) → RxFits h x → Side h h (receive_bit_on x p)
+    go None f =
         by_cond (Side h h) (format_of p).synchronous _ p
         (λ c. side_take_bit h p (clocked_word (format_of p)) c (record { format = format_good p.smr p.semr; place = first; error = inl refl; due = c }) d) (λ c. d)
-    go (Busy r) f = by_cond (Side h h) r.format.synchronous _ p (λ c. side_take_bit h p r c f d) (λ c. d)
+    go (Some r) f = by_cond (Side h h) r.format.synchronous _ p (λ c. side_take_bit h p r c f d) (λ c. d)

@@ -1,5 +1,6 @@
--- The field test is kept: the sender's part. Its state, read as facts against a half count h, holds after each of the sender's steps.
+-- The field test is kept: the sender's part. Its state, read as facts against a half count h, is_some after each of the sender's steps.
 -- Assumes nothing.
+use Rattle.std.specs.Prelude.{Option, None, Some, is_some}
 use mathlib.Core.Path.{◌≡◌, refl, sym, subst}
 use mathlib.Core.Logic.{◌≢◌}
 use Prim.Native.Nat.{ℕ, suc, ◌+◌, ◌-◌, ◌*◌, ◌%◌, ◌≤◌, ◌<◌}
@@ -14,19 +15,13 @@ use Rattle.frame.proofs.Truth.{and_left, and_both}
 use Rattle.frame.proofs.Words.{Shape, shape, format_good, word_again}
 use Rattle.shift.specs.declared.Character.{Character}
 use Rattle.port.specs.declared.Port.{Port}
-use Rattle.shift.specs.declared.Due.{Due}
-use Rattle.shift.specs.declared.Due.TheVariants.{Never, At}
-use Rattle.shift.specs.declared.Holding.{Holding}
-use Rattle.shift.specs.declared.Holding.TheVariants.{Empty, Byte}
-use Rattle.shift.specs.declared.Loaded.{Loaded}
-use Rattle.shift.specs.declared.Loaded.TheVariants.{Nothing, Next}
 use Rattle.shift.specs.declared.Tx.{Tx}
 use Rattle.shift.specs.declared.Tx.TheVariants.{Off, Blocked, Mark, Start, Data, Tail}
 use Rattle.port.specs.Fields.{with_tx}
 use Rattle.port.specs.Baud.{format_of, boundary}
 use Rattle.shift.specs.Due.{due_now}
 use Rattle.port.specs.Receiver.{error_free}
-use Rattle.shift.specs.Sender.{level, holds, tx_next}
+use Rattle.shift.specs.Sender.{level, tx_next}
 use Rattle.port.specs.Sender.{character, loaded, loaded_on, preloaded, preloaded_on, drive, begin, start_at, start_loaded, try_start, try_start_on, one_sent, finish_tail, next_cell, advance_tx, advance_tx_on}
 use Rattle.port.specs.Clocked.{tail_ends, tail_ends_on, bit_out, shift_out, shift_out_on}
 use Rattle.port.specs.Registers.{load_tail, load_tail_on}
@@ -37,20 +32,20 @@ use Rattle.branches.proofs.Branches.{by_cond}
 abbrev pub Ahead : ℕ → ℕ → Type 0
 Ahead h n = (h < n) × (n ≤ h + 448)
 
-abbrev pub DueBy : Bool → ℕ → Due → Type 0
-DueBy clocked h Never = clocked ≡ true
-DueBy clocked h (At n) = (clocked ≡ false) × Ahead h n
+abbrev pub DueBy : Bool → ℕ → Option ℕ → Type 0
+DueBy clocked h None = clocked ≡ true
+DueBy clocked h (Some n) = (clocked ≡ false) × Ahead h n
 
-abbrev pub DueMaybe : ℕ → Due → Type 0
-DueMaybe h Never = Unit {0}
-DueMaybe h (At n) = Ahead h n
+abbrev pub DueMaybe : ℕ → Option ℕ → Type 0
+DueMaybe h None = Unit {0}
+DueMaybe h (Some n) = Ahead h n
 
 abbrev pub Good : Character → Type 0
 Good ch = character_valid ch ≡ true
 
-abbrev pub GoodLoaded : Loaded → Type 0
-GoodLoaded Nothing = Unit {0}
-GoodLoaded (Next ch) = Good ch
+abbrev pub GoodLoaded : Option Character → Type 0
+GoodLoaded None = Unit {0}
+GoodLoaded (Some ch) = Good ch
 
 -- where a cell number stops
 abbrev pub cell_end : Format → ℕ
@@ -86,18 +81,18 @@ loaded_good : (p : Port) → GoodLoaded (loaded p)
 unfolding loaded
 loaded_good p = go p.holding
   where
-    go : (x : Holding) → GoodLoaded (loaded_on x p)
-    go Empty = tt
-    go (Byte v) = character_good p v
+    go : (x : Option ℕ) → GoodLoaded (loaded_on x p)
+    go None = tt
+    go (Some v) = character_good p v
 
 -- ---- steps at one half
 preloaded_sends : (h : ℕ) (p : Port) → Sends h p → Sends h (preloaded p)
 unfolding preloaded
 preloaded_sends h p s = go p.holding
   where
-    go : (x : Holding) → Sends h (preloaded_on x p)
-    go Empty = s
-    go (Byte v) = s
+    go : (x : Option ℕ) → Sends h (preloaded_on x p)
+    go None = s
+    go (Some v) = s
 
 begin_sends : (h : ℕ) (p : Port) (ch : Character) → p.half ≡ h → Good ch → Sends h (begin p ch)
 unfolding begin
@@ -115,10 +110,10 @@ boundary_near p n h =
     by_cond (λ (x : ℕ). (p.half ≤ x) × (x ≤ p.half + n)) (eqb (p.half % n) 0 && p.edge) p.half (p.half + n - p.half % n)
     (λ e. omega arith) (λ e. omega (arith, mod-lt p.half h))
 
-start_sends : (h : ℕ) (l : Loaded) (p : Port) → Sends h p → GoodLoaded l → Sends h (start_loaded l p)
+start_sends : (h : ℕ) (l : Option Character) (p : Port) → Sends h p → GoodLoaded l → Sends h (start_loaded l p)
 unfolding start_at
-start_sends h Nothing p s g = s
-start_sends h (Next ch) p s g =
+start_sends h None p s g = s
+start_sends h (Some ch) p s g =
     by_cond (Sends h) ch.format.synchronous _ _ (λ c. begin_sends h p ch s.at g)
     (λ c. by_cond (Sends h) (eqb (boundary p ch.format.half_bit) p.half) _ _ (λ b. begin_sends h p ch s.at g)
     (λ b. record { at = s.at; fits = (g, late b) }))
@@ -136,7 +131,7 @@ try_sends h p s = go p.tx s.fits
   where
     go : (t : Tx) → TxFits h t → Sends h (try_start_on t p)
     go Off f =
-        by_cond (Sends h) (has p.scr 0x20 && (holds p.holding && (not (format_of p).synchronous || error_free p))) (start_loaded (loaded p) (preloaded p)) p
+        by_cond (Sends h) (has p.scr 0x20 && (is_some p.holding && (not (format_of p).synchronous || error_free p))) (start_loaded (loaded p) (preloaded p)) p
         (λ b. start_sends h (loaded p) (preloaded p) (preloaded_sends h p s) (loaded_good p)) (λ b. s)
     go (Blocked ch) f = by_cond (Sends h) (error_free p) (begin p ch) p (λ b. begin_sends h p ch s.at f) (λ b. s)
     go (Mark n) f = s
@@ -144,19 +139,19 @@ try_sends h p s = go p.tx s.fits
     go (Data ch cell next) f = s
     go (Tail l next) f = s
 
-finish_sends : (h : ℕ) (l : Loaded) (p : Port) → p.half ≡ h → GoodLoaded l → Sends h (finish_tail l p)
-finish_sends h Nothing p e g = try_sends h (one_sent p) (record { at = e; fits = tt })
-finish_sends h (Next ch) p e g =
+finish_sends : (h : ℕ) (l : Option Character) (p : Port) → p.half ≡ h → GoodLoaded l → Sends h (finish_tail l p)
+finish_sends h None p e g = try_sends h (one_sent p) (record { at = e; fits = tt })
+finish_sends h (Some ch) p e g =
     by_cond (Sends h) (ch.format.synchronous && not (error_free p)) _ _ (λ b. record { at = e; fits = g }) (λ b. begin_sends h (one_sent p) ch e g)
 
 -- a tail with a due half or none
-tail_sends : (h : ℕ) (p : Port) (d : Due) → p.half ≡ h → DueMaybe h d → Sends h (with_tx (preloaded p) (Tail (loaded p) d))
+tail_sends : (h : ℕ) (p : Port) (d : Option ℕ) → p.half ≡ h → DueMaybe h d → Sends h (with_tx (preloaded p) (Tail (loaded p) d))
 unfolding preloaded
 tail_sends h p d e m = go p.holding
   where
-    go : (x : Holding) → Sends h (with_tx (preloaded_on x p) (Tail (loaded p) d))
-    go Empty = record { at = e; fits = (loaded_good p, m) }
-    go (Byte v) = record { at = e; fits = (loaded_good p, m) }
+    go : (x : Option ℕ) → Sends h (with_tx (preloaded_on x p) (Tail (loaded p) d))
+    go None = record { at = e; fits = (loaded_good p, m) }
+    go (Some v) = record { at = e; fits = (loaded_good p, m) }
 
 pub load_tail_sends : (h : ℕ) (p : Port) → Sends h p → Sends h (load_tail p)
 unfolding load_tail
@@ -168,15 +163,15 @@ load_tail_sends h p s = go p.tx s.fits
     go (Mark n) f = s
     go (Start ch n) f = s
     go (Data ch cell next) f = s
-    go (Tail Nothing next) f =
-        by_cond (Sends h) (holds p.holding) (with_tx (preloaded p) (Tail (loaded p) next)) p (λ e. tail_sends h p next s.at f.1) (λ e. s)
-    go (Tail (Next ch) next) f = s
+    go (Tail None next) f =
+        by_cond (Sends h) (is_some p.holding) (with_tx (preloaded p) (Tail (loaded p) next)) p (λ e. tail_sends h p next s.at f.1) (λ e. s)
+    go (Tail (Some ch) next) f = s
 
 next_sends : (h : ℕ) (ch : Character) (cell : ℕ) (p : Port) → p.half ≡ h → Good ch → ch.format.synchronous ≡ false → cell ≤ stop ch.format → Sends h (next_cell ch cell p)
 unfolding next_cell
 next_sends h ch cell p e g c le =
     by_cond (Sends h) (eqb cell (stop ch.format)) _ _
-    (λ b. tail_sends h (drive p (level ch cell)) (At (p.half + ch.format.stops * ch.format.half_bit)) e (omega (arith, e, low, sh.long), omega (arith, e, high, sh.short)))
+    (λ b. tail_sends h (drive p (level ch cell)) (Some (p.half + ch.format.stops * ch.format.half_bit)) e (omega (arith, e, low, sh.long), omega (arith, e, high, sh.short)))
     (λ b. record { at = e; fits = (g, below b, (c, (omega (arith, e, sh.long), omega (arith, e, sh.short)))) })
   where
     sh : Shape ch.format
@@ -199,17 +194,17 @@ next_sends h ch cell p e g c le =
 later : (h n : ℕ) → Ahead h n → n ≢ suc h → Ahead (suc h) n
 later h n a ne = (omega (arith, a.0), omega (arith, a.1))
 
-pub later_by : (c : Bool) (h : ℕ) (d : Due) → DueBy c h d → due_now d (suc h) ≡ false → DueBy c (suc h) d
-later_by c h Never a b = a
-later_by c h (At n) a b = (a.0, later h n a.1 (eqb-false n (suc h) b))
+pub later_by : (c : Bool) (h : ℕ) (d : Option ℕ) → DueBy c h d → due_now d (suc h) ≡ false → DueBy c (suc h) d
+later_by c h None a b = a
+later_by c h (Some n) a b = (a.0, later h n a.1 (eqb-false n (suc h) b))
 
-pub later_maybe : (h : ℕ) (d : Due) → DueMaybe h d → due_now d (suc h) ≡ false → DueMaybe (suc h) d
-later_maybe h Never a b = tt
-later_maybe h (At n) a b = later h n a (eqb-false n (suc h) b)
+pub later_maybe : (h : ℕ) (d : Option ℕ) → DueMaybe h d → due_now d (suc h) ≡ false → DueMaybe (suc h) d
+later_maybe h None a b = tt
+later_maybe h (Some n) a b = later h n a (eqb-false n (suc h) b)
 
-pub plain_due : (c : Bool) (h k : ℕ) (d : Due) → DueBy c h d → due_now d k ≡ true → c ≡ false
-plain_due c h k Never a b = absurd (false≢true b)
-plain_due c h k (At n) a b = a.0
+pub plain_due : (c : Bool) (h k : ℕ) (d : Option ℕ) → DueBy c h d → due_now d k ≡ true → c ≡ false
+plain_due c h k None a b = absurd (false≢true b)
+plain_due c h k (Some n) a b = a.0
 
 cell_room : (f : Format) (cell : ℕ) → f.synchronous ≡ false → cell < cell_end f → suc cell ≤ stop f
 cell_room f cell c lt = subst (λ (k : Bool). cell < cond k 8 (stop f)) c lt
@@ -224,7 +219,7 @@ advance_tx_sends h p e s = go p.tx refl s
     now : (n : ℕ) → eqb n p.half ≡ false → n ≢ suc h
     now n b = eqb-false n (suc h) (subst (λ (k : ℕ). eqb n k ≡ false) e b)
 
-    soon : (d : Due) → due_now d p.half ≡ false → due_now d (suc h) ≡ false
+    soon : (d : Option ℕ) → due_now d p.half ≡ false → due_now d (suc h) ≡ false
     soon d b = subst (λ (k : ℕ). due_now d k ≡ false) e b
 
     go : (t : Tx) → p.tx ≡ t → TxFits h t → Sends (suc h) (advance_tx_on t p)
@@ -243,13 +238,13 @@ advance_tx_sends h p e s = go p.tx refl s
         by_cond (Sends (suc h)) (due_now next p.half) _ p (λ b. finish_sends (suc h) l p e f.0) (λ b. stays (Tail l next) q (f.0, later_maybe h next f.1 (soon next b)))
 
 -- the same half again: nothing is due
-pub by_maybe : (c : Bool) (h : ℕ) (d : Due) → DueBy c h d → DueMaybe h d
-by_maybe c h Never a = tt
-by_maybe c h (At n) a = a.1
+pub by_maybe : (c : Bool) (h : ℕ) (d : Option ℕ) → DueBy c h d → DueMaybe h d
+by_maybe c h None a = tt
+by_maybe c h (Some n) a = a.1
 
-pub not_due : (h k : ℕ) (d : Due) → k ≡ h → DueMaybe h d → due_now d k ≡ false
-not_due h k Never e a = refl
-not_due h k (At n) e a = ne_eqb n k (omega (arith, e, a.0))
+pub not_due : (h k : ℕ) (d : Option ℕ) → k ≡ h → DueMaybe h d → due_now d k ≡ false
+not_due h k None e a = refl
+not_due h k (Some n) e a = ne_eqb n k (omega (arith, e, a.0))
 
 tx_due : (h : ℕ) (t : Tx) → TxFits h t → DueMaybe h (tx_next t)
 tx_due h Off f = tt
@@ -273,8 +268,8 @@ tail_ends_sends h p s = go p.tx s.fits
     go (Mark n) f = s
     go (Start ch n) f = s
     go (Data ch cell next) f = s
-    go (Tail l Never) f = finish_sends h l p s.at f.0
-    go (Tail l (At n)) f = s
+    go (Tail l None) f = finish_sends h l p s.at f.0
+    go (Tail l (Some n)) f = s
 
 pub shift_out_sends : (h : ℕ) (p : Port) → Sends h p → Sends h (shift_out p)
 unfolding shift_out bit_out
@@ -292,8 +287,8 @@ shift_out_sends h p s = go p.tx s.fits
     go (Blocked ch) f = s
     go (Mark n) f = s
     go (Start ch n) f = s
-    go (Data ch cell Never) f =
-        by_cond (Sends h) (eqb cell 7) _ _ (λ b. tail_sends h (drive p (level ch cell)) Never s.at tt)
+    go (Data ch cell None) f =
+        by_cond (Sends h) (eqb cell 7) _ _ (λ b. tail_sends h (drive p (level ch cell)) None s.at tt)
         (λ b. record { at = s.at; fits = (f.0, below ch.format cell f.2 f.1 b, f.2) })
-    go (Data ch cell (At n)) f = s
+    go (Data ch cell (Some n)) f = s
     go (Tail l next) f = s

@@ -1,5 +1,6 @@
 -- The field test read as facts, and facts put back as the test; what every call does to them.
 -- Assumes nothing.
+use Rattle.std.specs.Prelude.{Option, None, Some}
 use mathlib.Core.Path.{◌≡◌, refl, sym, ap, subst}
 use mathlib.Core.Logic.{◌⊎◌, inl, inr, ⊎_elim}
 use Prim.Native.Nat.{ℕ, zero, suc, ◌+◌, ◌≤◌, zero-le}
@@ -13,14 +14,8 @@ use Rattle.frame.specs.declared.Format.{Format}
 use Rattle.frame.specs.Frame.{has, format_valid}
 use Rattle.frame.proofs.Truth.{and_left, and_right, and_both, or_cases}
 use Rattle.port.specs.declared.Port.{Port}
-use Rattle.shift.specs.declared.Due.{Due}
-use Rattle.shift.specs.declared.Due.TheVariants.{Never, At}
-use Rattle.shift.specs.declared.Loaded.{Loaded}
-use Rattle.shift.specs.declared.Loaded.TheVariants.{Nothing, Next}
 use Rattle.shift.specs.declared.Tx.{Tx}
 use Rattle.shift.specs.declared.Tx.TheVariants.{Off, Blocked, Mark, Start, Data, Tail}
-use Rattle.shift.specs.declared.Receiver.{Receiver}
-use Rattle.shift.specs.declared.Receiver.TheVariants.{Idle, Busy}
 use Rattle.port.specs.Baud.{internal, edge_counts}
 use Rattle.port.specs.Half.{halves, uncounted, inside}
 use Rattle.port.specs.Registers.{handles, read, write}
@@ -38,6 +33,8 @@ use Rattle.port_laws.proofs.KeepSender.{Ahead, DueBy, DueMaybe, GoodLoaded, cell
 use Rattle.port_laws.proofs.KeepReceiver.{last_position, PositionFits, RxFits, Storable, Side}
 use Rattle.port_laws.proofs.KeepHalf.{Kept, kept_halves}
 use Rattle.port_laws.proofs.KeepCalls.{kept_of, read_kept, write_kept, line_kept, pins_kept, power_kept, inside_kept, uncounted_kept, fresh_kept}
+use Rattle.shift.specs.declared.Rx.{Rx}
+use Rattle.shift.specs.declared.Character.{Character}
 
 -- ---- due halves
 ahead_of : (h n : ℕ) → due_at h n ≡ true → Ahead h n
@@ -46,30 +43,30 @@ ahead_of h n e = (ltb-true h n (and_left (ltb h n) _ e), leb-true n (h + 448) (a
 ahead_test : (h n : ℕ) → Ahead h n → due_at h n ≡ true
 ahead_test h n a = and_both (ltb h n) _ (lt-ltb h n a.0) (le-leb n (h + 448) a.1)
 
-maybe_of : (h : ℕ) (d : Due) → due_either d h ≡ true → DueMaybe h d
-maybe_of h Never e = tt
-maybe_of h (At n) e = ahead_of h n e
+maybe_of : (h : ℕ) (d : Option ℕ) → due_either d h ≡ true → DueMaybe h d
+maybe_of h None e = tt
+maybe_of h (Some n) e = ahead_of h n e
 
-maybe_test : (h : ℕ) (d : Due) → DueMaybe h d → due_either d h ≡ true
-maybe_test h Never f = refl
-maybe_test h (At n) f = ahead_test h n f
+maybe_test : (h : ℕ) (d : Option ℕ) → DueMaybe h d → due_either d h ≡ true
+maybe_test h None f = refl
+maybe_test h (Some n) f = ahead_test h n f
 
-by_of : (c : Bool) (h : ℕ) (d : Due) → due_by d c h ≡ true → DueBy c h d
-by_of c h Never e = e
-by_of c h (At n) e = (not-true c (and_left (not c) _ e), ahead_of h n (and_right (not c) _ e))
+by_of : (c : Bool) (h : ℕ) (d : Option ℕ) → due_by d c h ≡ true → DueBy c h d
+by_of c h None e = e
+by_of c h (Some n) e = (not-true c (and_left (not c) _ e), ahead_of h n (and_right (not c) _ e))
 
-by_test : (c : Bool) (h : ℕ) (d : Due) → DueBy c h d → due_by d c h ≡ true
-by_test c h Never f = f
-by_test c h (At n) f = and_both (not c) _ (ap not f.0) (ahead_test h n f.1)
+by_test : (c : Bool) (h : ℕ) (d : Option ℕ) → DueBy c h d → due_by d c h ≡ true
+by_test c h None f = f
+by_test c h (Some n) f = and_both (not c) _ (ap not f.0) (ahead_test h n f.1)
 
 -- ---- the sender
-loaded_of : (l : Loaded) → loaded_valid l ≡ true → GoodLoaded l
-loaded_of Nothing e = tt
-loaded_of (Next ch) e = e
+loaded_of : (l : Option Character) → loaded_valid l ≡ true → GoodLoaded l
+loaded_of None e = tt
+loaded_of (Some ch) e = e
 
-loaded_test : (l : Loaded) → GoodLoaded l → loaded_valid l ≡ true
-loaded_test Nothing g = refl
-loaded_test (Next ch) g = g
+loaded_test : (l : Option Character) → GoodLoaded l → loaded_valid l ≡ true
+loaded_test None g = refl
+loaded_test (Some ch) g = g
 
 tx_of : (h : ℕ) (t : Tx) → tx_valid t h ≡ true → TxFits h t
 tx_of h Off e = tt
@@ -105,10 +102,10 @@ place_test (negsuc (suc zero)) f e = ap not e
 place_test (negsuc zero) f e = ap not e
 place_test (pos j) f e = le-leb j (last_position f) e
 
-rx_of : (h : ℕ) (x : Receiver) → rx_valid x h ≡ true → RxFits h x
+rx_of : (h : ℕ) (x : Option Rx) → rx_valid x h ≡ true → RxFits h x
 unfolding word_in_place
-rx_of h Idle e = tt
-rx_of h (Busy r) e =
+rx_of h None e = tt
+rx_of h (Some r) e =
     let f : Bool = format_valid r.format in
     let z : Bool = position_valid r.position r.format in
     let w : Bool = eqb r.error 0 || eqb r.error 8 in
@@ -122,10 +119,10 @@ rx_of h (Busy r) e =
       due = by_of r.format.synchronous h r.next (and_right w d e2);
     }
 
-rx_test : (h : ℕ) (x : Receiver) → RxFits h x → rx_valid x h ≡ true
+rx_test : (h : ℕ) (x : Option Rx) → RxFits h x → rx_valid x h ≡ true
 unfolding word_in_place
-rx_test h Idle f = refl
-rx_test h (Busy r) f =
+rx_test h None f = refl
+rx_test h (Some r) f =
     and_both (format_valid r.format) _ f.format
     (and_both (position_valid r.position r.format) _ (place_test r.position r.format f.place)
     (and_both (eqb r.error 0 || eqb r.error 8) _ (or_true (eqb r.error 0) (eqb r.error 8) (⊎_elim (λ q. inl (eq-eqb r.error 0 q)) (λ q. inr (eq-eqb r.error 8 q)) f.error)) (by_test r.format.synchronous h r.next f.due)))

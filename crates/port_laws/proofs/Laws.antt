@@ -1,5 +1,6 @@
 -- The theorems of specs/Laws.antt.
 -- Assumes nothing.
+use Rattle.std.specs.Prelude.{Option, None, Some}
 use mathlib.Core.Path.{◌≡◌, refl, sym, ◌∙◌, subst}
 use mathlib.Core.Logic.{inl, inr}
 use Prim.Native.Nat.{ℕ, ◌+◌}
@@ -9,8 +10,6 @@ use mathlib.Core.List.{List, [], ◌∷◌}
 use lib.Dec.{eqb, leb}
 use Rattle.frame.specs.Frame.{has}
 use Rattle.port.specs.declared.Port.{Port}
-use Rattle.shift.specs.declared.Loaded.{Loaded}
-use Rattle.shift.specs.declared.Loaded.TheVariants.{Nothing, Next}
 use Rattle.port.specs.Power.{fresh}
 use Rattle.port.specs.Baud.{external, internal, edge_counts}
 use Rattle.port.specs.Receiver.{error_free, complete_receive}
@@ -31,6 +30,7 @@ use Rattle.port_laws.proofs.TallySent.{finish_sent}
 use Rattle.port_laws.proofs.TallyReceived.{complete_got}
 use Rattle.port_laws.proofs.TallyHalf.{half_finishes, half_receives}
 use Rattle.port_laws.proofs.TallyCalls.{grown_wraps, pin_receives, pin_finishes, direct_counts, run_counts, from_zero}
+use Rattle.shift.specs.declared.Character.{Character}
 
 -- ---- the field test
 pub fresh_passes : FreshPasses
@@ -187,9 +187,9 @@ tail_end_counts l p = (finish_sent l p, go l)
     start : StartClosed P
     start = free_start P (λ q t u b s x k. k)
 
-    go : (l : Loaded) → (finish_tail l p).received ≡ p.received
-    go Nothing = try_keeps P start (one_sent p) refl
-    go (Next ch) =
+    go : (l : Option Character) → (finish_tail l p).received ≡ p.received
+    go None = try_keeps P start (one_sent p) refl
+    go (Some ch) =
         both_arms P (ch.format.synchronous && not (error_free p)) _ _ refl
         (begin_keeps P start (one_sent p) ch refl)
 

@@ -1,5 +1,6 @@
 -- The two tallies through every call and every list of direct calls: one proof for both.
 -- Assumes nothing.
+use Rattle.std.specs.Prelude.{is_some}
 use mathlib.Core.Path.{◌≡◌, refl, sym, ap, ◌∙◌}
 use Prim.Native.Nat.{ℕ, zero, suc, ◌+◌, ◌%◌, ◌<◌}
 use native.Mathlib.Omega.{arith}
@@ -12,7 +13,6 @@ use Rattle.port.specs.declared.Port.{Port}
 use Rattle.port.specs.Fields.{with_scr, with_input}
 use Rattle.port.specs.Baud.{format_of, external, internal, edge_counts}
 use Rattle.port.specs.Receiver.{arm_receive}
-use Rattle.shift.specs.Sender.{holds}
 use Rattle.port.specs.Sender.{try_start}
 use Rattle.port.specs.Half.{half_step, halves, uncounted, inside}
 use Rattle.port.specs.Registers.{handles, read, scr_tx, write_scr, write_tdr, cleared, status_with, status_write, stored, connect, load_tail, after_store, write}
@@ -81,7 +81,7 @@ stored_stood a v p =
     (arm (eqb a 0xff99) _ _ (refl, refl)
     (arm (eqb a 0xff9a) _ _ (arm (has v 0x10) _ _ scr (scr.0, scr.1))
     (arm (eqb a 0xff9b) _ _ (arm (has p.scr 0x20) _ _ (refl, refl) (refl, refl))
-    (arm (eqb a 0xff9c) _ _ (arm (has p.scr 0x20) _ _ (arm (not (has (cleared v p) 0x80) && not (holds p.holding)) _ _ (refl, refl) (refl, refl)) (refl, refl))
+    (arm (eqb a 0xff9c) _ _ (arm (has p.scr 0x20) _ _ (arm (not (has (cleared v p) 0x80) && not (is_some p.holding)) _ _ (refl, refl) (refl, refl)) (refl, refl))
     (arm (eqb a 0xff9d) _ _ (refl, refl)
     (arm (eqb a 0xffa6) _ _ (refl, refl) (refl, refl))))))))
   where

@@ -1,12 +1,12 @@
 -- Both tallies through an edge of the clock pin, and through a half.
 -- Assumes nothing.
+use Rattle.std.specs.Prelude.{None}
 use mathlib.Core.Path.{◌≡◌, refl, sym, ap, ap₂, ◌∙◌}
 use Prim.Native.Nat.{ℕ, suc}
 use mathlib.Core.Bool.{Bool, true, false, not, ◌&&◌}
 use lib.Bits.{bit_and}
 use Rattle.frame.specs.Frame.{has}
 use Rattle.port.specs.declared.Port.{Port}
-use Rattle.shift.specs.declared.Due.TheVariants.{Never}
 use Rattle.port.specs.Baud.{external, counted, edge_counted}
 use Rattle.shift.specs.Due.{due_now}
 use Rattle.port.specs.Receiver.{error_free}
@@ -31,14 +31,14 @@ unfolding clocked_edge
 clocked_edge_sent p =
     let e : Bool → ℕ = λ (b : Bool). tally ((b && not p.sck) && clocked_tail p.tx) p.transmitted in
     by_cond (Sent (e (due_now p.sync_next p.half))) (due_now p.sync_next p.half) _ p
-    (λ b. edge_sent (not p.sck) (with_clock p Never (not p.sck)) ∙ sym (ap e b)) (λ b. sym (ap e b))
+    (λ b. edge_sent (not p.sck) (with_clock p None (not p.sck)) ∙ sym (ap e b)) (λ b. sym (ap e b))
 
 clocked_edge_got : (p : Port) → Got (tally (rising p && (last_clocked p.rx && ready p)) p.received) (clocked_edge p)
 unfolding clocked_edge
 clocked_edge_got p =
     let e : Bool → ℕ = λ (b : Bool). tally ((b && not p.sck) && (last_clocked p.rx && ready p)) p.received in
     by_cond (Got (e (due_now p.sync_next p.half))) (due_now p.sync_next p.half) _ p
-    (λ b. edge_got (not p.sck) (with_clock p Never (not p.sck)) ∙ sym (ap e b)) (λ b. sym (ap e b))
+    (λ b. edge_got (not p.sck) (with_clock p None (not p.sck)) ∙ sym (ap e b)) (λ b. sym (ap e b))
 
 -- basic work does not touch it
 abbrev Rising : Bool → Port → Type 0

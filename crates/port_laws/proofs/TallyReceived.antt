@@ -1,5 +1,6 @@
 -- The tally of words received, through the receiver's steps: it grows with a word that is whole without error while RDRF is clear, at most once in a half.
 -- Assumes nothing.
+use Rattle.std.specs.Prelude.{Option, None, Some}
 use mathlib.Core.Path.{◌≡◌, refl, sym, ap, ap₂, ◌∙◌, subst}
 use Prim.Native.Nat.{ℕ, zero, suc}
 use mathlib.Core.Bool.{Bool, true, false, cond, not, ◌&&◌, ◌||◌, beq, true≢false, false≢true, and-false}
@@ -10,11 +11,7 @@ use Rattle.frame.specs.declared.Format.{Format}
 use Rattle.frame.specs.Frame.{has, differ}
 use Rattle.frame.proofs.Truth.{and_left, and_right, beq_true, every_row, by_table}
 use Rattle.port.specs.declared.Port.{Port}
-use Rattle.shift.specs.declared.Due.{Due}
-use Rattle.shift.specs.declared.Due.TheVariants.{Never, At}
 use Rattle.shift.specs.declared.Rx.{Rx}
-use Rattle.shift.specs.declared.Receiver.{Receiver}
-use Rattle.shift.specs.declared.Receiver.TheVariants.{Idle, Busy}
 use Rattle.shift.specs.declared.Sampled.{Sampled}
 use Rattle.shift.specs.declared.Sampled.TheVariants.{Dropped, Onward, Whole}
 use Rattle.port.specs.Fields.{with_rx}
@@ -48,9 +45,9 @@ complete_got p r =
     (λ b. by_cond G E _ _ (λ c. sym (ap₂ (λ (e h : Bool). tally (e && not h) R) c b)) (λ c. sym (ap (λ (e : Bool). tally (e && not H) R) c)))
 
 -- a sample that is due, and makes a word whole without error
-abbrev pub sampled : Receiver → Format → Bool → ℕ → Bool
-sampled Idle now high half = false
-sampled (Busy r) now high half = due_now r.next half && clean (sample now high half r)
+abbrev pub sampled : Option Rx → Format → Bool → ℕ → Bool
+sampled None now high half = false
+sampled (Some r) now high half = due_now r.next half && clean (sample now high half r)
 
 advance_got : (p : Port) → Got (tally (sampled p.rx (format_of p) (input_level p) p.half && not (has p.ssr 0x40)) p.received) (advance_rx p)
 unfolding advance_rx
@@ -65,11 +62,11 @@ advance_got p = go p.rx
     out : (o : Sampled) → Got (tally (clean o && N) R) (after_sample o p)
     out Dropped = refl
     out (Onward r) = refl
-    out (Whole r) = complete_got (with_rx p Idle) r
+    out (Whole r) = complete_got (with_rx p None) r
 
-    go : (x : Receiver) → Got (tally (sampled x (format_of p) (input_level p) p.half && N) R) (advance_rx_on x p)
-    go Idle = refl
-    go (Busy r) =
+    go : (x : Option Rx) → Got (tally (sampled x (format_of p) (input_level p) p.half && N) R) (advance_rx_on x p)
+    go None = refl
+    go (Some r) =
         let o : Sampled = sample (format_of p) (input_level p) p.half r in
         by_cond (Got (tally ((due_now r.next p.half && clean o) && N) R)) (due_now r.next p.half) _ p
         (λ e. out o ∙ sym (ap (λ (b : Bool). tally ((b && clean o) && N) R) e)) (λ e. sym (ap (λ (b : Bool). tally ((b && clean o) && N) R) e))
@@ -120,20 +117,20 @@ basic_got p =
     ∙ ap₂ (λ (h : Bool) (m : ℕ). tally (S && not h) m) flag (advance_tx_keeps (Got p.received) (sender_got p.received) p refl))
 
 -- ---- a clocked word, without error, that lacks its last bit
-abbrev pub last_clocked : Receiver → Bool
-last_clocked Idle = false
-last_clocked (Busy r) = last_bit r.position && (r.format.synchronous && eqb r.error 0)
+abbrev pub last_clocked : Option Rx → Bool
+last_clocked None = false
+last_clocked (Some r) = last_bit r.position && (r.format.synchronous && eqb r.error 0)
 
-plain_last : (r : Rx) → r.format.synchronous ≡ false → last_clocked (Busy r) ≡ false
+plain_last : (r : Rx) → r.format.synchronous ≡ false → last_clocked (Some r) ≡ false
 plain_last r c = ap (λ (s : Bool). last_bit r.position && (s && eqb r.error 0)) c ∙ and-false (last_bit r.position)
 
-pub clocked_last : (r : Rx) → last_clocked (Busy r) ≡ true → r.format.synchronous ≡ true
+pub clocked_last : (r : Rx) → last_clocked (Some r) ≡ true → r.format.synchronous ≡ true
 clocked_last r l = and_left r.format.synchronous (eqb r.error 0) (and_right (last_bit r.position) _ l)
 
 -- no sample leads to one
 abbrev pub NotLast : Sampled → Type 0
 NotLast Dropped = Unit {0}
-NotLast (Onward r) = last_clocked (Busy r) ≡ false
+NotLast (Onward r) = last_clocked (Some r) ≡ false
 NotLast (Whole r) = Unit {0}
 
 sample_last : (now : Format) (high : Bool) (half : ℕ) (r : Rx) → r.format.synchronous ≡ false → (z : ℤ) → NotLast (sample_at z now high half r)
@@ -162,12 +159,12 @@ advance_last h p d = go p.rx refl d.fits
     out : (o : Sampled) → NotLast o → Last false (after_sample o p)
     out Dropped n = refl
     out (Onward r) n = n
-    out (Whole r) n = ap last_clocked (complete_rx (with_rx p Idle) r)
+    out (Whole r) n = ap last_clocked (complete_rx (with_rx p None) r)
 
-    go : (x : Receiver) → p.rx ≡ x → RxFits h x → Last (last_clocked x) (advance_rx_on x p)
-    go Idle e f = ap last_clocked e
-    go (Busy r) e f =
-        by_cond (Last (last_clocked (Busy r))) (due_now r.next p.half) _ p
+    go : (x : Option Rx) → p.rx ≡ x → RxFits h x → Last (last_clocked x) (advance_rx_on x p)
+    go None e f = ap last_clocked e
+    go (Some r) e f =
+        by_cond (Last (last_clocked (Some r))) (due_now r.next p.half) _ p
         (λ b. let c : r.format.synchronous ≡ false = plain_due r.format.synchronous h p.half r.next f.due b in
         out (sample (format_of p) (input_level p) p.half r) (sample_last (format_of p) (input_level p) p.half r c r.position) ∙ sym (plain_last r c))
         (λ b. ap last_clocked e)
@@ -176,9 +173,9 @@ pub arm_last : (p : Port) → Last (last_clocked p.rx) (arm_receive p)
 unfolding arm_receive
 arm_last p = go p.rx refl
   where
-    go : (x : Receiver) → p.rx ≡ x → Last (last_clocked x) (arm_receive_on x p)
-    go Idle e = both_arms (Last false) (arms p) _ p refl (ap last_clocked e)
-    go (Busy r) e = ap last_clocked e
+    go : (x : Option Rx) → p.rx ≡ x → Last (last_clocked x) (arm_receive_on x p)
+    go None e = both_arms (Last false) (arms p) _ p refl (ap last_clocked e)
+    go (Some r) e = ap last_clocked e
 
 sender_last : (b : Bool) → SenderClosed (Last b)
 sender_last b = free_sender (Last b) (λ q t u b s x k. k) (λ q n k. k)
@@ -195,9 +192,9 @@ idle_advance : (h : ℕ) (p : Port) → Side (suc h) h p → Last true p → adv
 unfolding advance_rx
 idle_advance h p d l = go p.rx d.fits l
   where
-    go : (x : Receiver) → RxFits h x → last_clocked x ≡ true → advance_rx_on x p ≡ p
-    go Idle f e = refl
-    go (Busy r) f e =
+    go : (x : Option Rx) → RxFits h x → last_clocked x ≡ true → advance_rx_on x p ≡ p
+    go None f e = refl
+    go (Some r) f e =
         by_cond (λ (q : Port). q ≡ p) (due_now r.next p.half) _ p
         (λ b. absurd (true≢false (sym (clocked_last r e) ∙ plain_due r.format.synchronous h p.half r.next f.due b))) (λ b. refl)
 
@@ -219,7 +216,7 @@ unfolding take_bit
 take_got p r =
     let c : Bool = eqb r.error 0 && not (has p.ssr 0x40) in
     by_cond (Got (tally (last_bit r.position && c) p.received)) (last_bit r.position) _ _
-    (λ b. complete_got (with_rx p Idle) (bit_taken (input_level p) r) ∙ sym (ap (λ (l : Bool). tally (l && c) p.received) b)) (λ b. sym (ap (λ (l : Bool). tally (l && c) p.received) b))
+    (λ b. complete_got (with_rx p None) (bit_taken (input_level p) r) ∙ sym (ap (λ (l : Bool). tally (l && c) p.received) b)) (λ b. sym (ap (λ (l : Bool). tally (l && c) p.received) b))
 
 receive_got : (p : Port) → Got (tally (last_clocked p.rx && ready p) p.received) (receive_bit p)
 unfolding receive_bit
@@ -242,10 +239,10 @@ receive_got p =
     joined l false e g n a b = absurd (false≢true a)
     joined l true e false n a b = absurd (false≢true b)
 
-    go : G ≡ true → (x : Receiver) → Got (tally (last_clocked x && (G && N)) R) (receive_bit_on x p)
-    go g Idle = both_arms (Got R) (format_of p).synchronous _ p (take_got p (clocked_word (format_of p))) refl
-    go g (Busy r) =
-        let n : ℕ = tally (last_clocked (Busy r) && (G && N)) R in
+    go : G ≡ true → (x : Option Rx) → Got (tally (last_clocked x && (G && N)) R) (receive_bit_on x p)
+    go g None = both_arms (Got R) (format_of p).synchronous _ p (take_got p (clocked_word (format_of p))) refl
+    go g (Some r) =
+        let n : ℕ = tally (last_clocked (Some r) && (G && N)) R in
         by_cond (Got n) r.format.synchronous _ p
         (λ s. take_got p r ∙ ap (λ (b : Bool). tally b R) (joined (last_bit r.position) r.format.synchronous (eqb r.error 0) G N s g))
         (λ s. sym (ap (λ (b : Bool). tally (b && (G && N)) R) (plain_last r s)))
@@ -289,20 +286,20 @@ received_once h p b r fits got last same =
     none m = ap (λ (c : Bool). tally c m) (and-false r)
 
     busy : (x : Rx) (s : Bool) → x.format.synchronous ≡ s → RxGood h x
-        → tally (r && ((last_bit x.position && (s && eqb x.error 0)) && ready p)) (tally (sampled (Busy x) (format_of p) (input_level p) (suc p.half) && N) R)
-        ≡ tally (cond s (r && (has p.scr 0x10 && (error_free p && (last_bit x.position && eqb x.error 0)))) (sampled (Busy x) (format_of p) (input_level p) (suc p.half)) && N) R
+        → tally (r && ((last_bit x.position && (s && eqb x.error 0)) && ready p)) (tally (sampled (Some x) (format_of p) (input_level p) (suc p.half) && N) R)
+        ≡ tally (cond s (r && (has p.scr 0x10 && (error_free p && (last_bit x.position && eqb x.error 0)))) (sampled (Some x) (format_of p) (input_level p) (suc p.half)) && N) R
     busy x true e f =
         let idle : due_now x.next (suc p.half) ≡ false = waits x.next f.due in
         ap (λ (d : Bool). tally (r && ((last_bit x.position && (true && eqb x.error 0)) && ready p)) (tally ((d && clean (sample (format_of p) (input_level p) (suc p.half) x)) && N) R)) idle
         ∙ ap (λ (c : Bool). tally c R) (order r (last_bit x.position) (eqb x.error 0) (has p.scr 0x10) (error_free p) N)
       where
-        waits : (d : Due) → DueBy x.format.synchronous h d → due_now d (suc p.half) ≡ false
-        waits Never g = refl
-        waits (At n) g = absurd (true≢false (sym e ∙ g.0))
+        waits : (d : Option ℕ) → DueBy x.format.synchronous h d → due_now d (suc p.half) ≡ false
+        waits None g = refl
+        waits (Some n) g = absurd (true≢false (sym e ∙ g.0))
     busy x false e f =
-        ap (λ (c : Bool). tally (r && (c && ready p)) (tally (sampled (Busy x) (format_of p) (input_level p) (suc p.half) && N) R)) (and-false (last_bit x.position))
-        ∙ none (tally (sampled (Busy x) (format_of p) (input_level p) (suc p.half) && N) R)
+        ap (λ (c : Bool). tally (r && (c && ready p)) (tally (sampled (Some x) (format_of p) (input_level p) (suc p.half) && N) R)) (and-false (last_bit x.position))
+        ∙ none (tally (sampled (Some x) (format_of p) (input_level p) (suc p.half) && N) R)
 
-    go : (x : Receiver) → RxFits h x → tally (r && (last_clocked x && ready p)) (tally (sampled x (format_of p) (input_level p) (suc p.half) && N) R) ≡ tally (completes_on x r p && N) R
-    go Idle f = none R
-    go (Busy x) f = busy x x.format.synchronous refl f
+    go : (x : Option Rx) → RxFits h x → tally (r && (last_clocked x && ready p)) (tally (sampled x (format_of p) (input_level p) (suc p.half) && N) R) ≡ tally (completes_on x r p && N) R
+    go None f = none R
+    go (Some x) f = busy x x.format.synchronous refl f

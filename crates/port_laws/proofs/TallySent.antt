@@ -1,5 +1,6 @@
 -- The tally of words sent, through the sender's steps: it grows at the end of a tail, at most once in a half, and not else.
 -- Assumes nothing.
+use Rattle.std.specs.Prelude.{Option, None, Some, is_none, is_some}
 use mathlib.Core.Path.{◌≡◌, refl, sym, ap, ap₂, ◌∙◌}
 use Prim.Native.Nat.{ℕ, suc, ◌%◌}
 use mathlib.Core.Bool.{Bool, true, false, not, ◌&&◌, ◌||◌, and-false, and-true}
@@ -7,18 +8,12 @@ use lib.Dec.{eqb}
 use Rattle.frame.specs.Frame.{has, stop}
 use Rattle.port.specs.declared.Port.{Port}
 use Rattle.shift.specs.declared.Character.{Character}
-use Rattle.shift.specs.declared.Due.TheVariants.{Never, At}
-use Rattle.shift.specs.declared.Holding.{Holding}
-use Rattle.shift.specs.declared.Holding.TheVariants.{Empty, Byte}
-use Rattle.shift.specs.declared.Loaded.{Loaded}
-use Rattle.shift.specs.declared.Loaded.TheVariants.{Nothing, Next}
 use Rattle.shift.specs.declared.Tx.{Tx}
 use Rattle.shift.specs.declared.Tx.TheVariants.{Off, Blocked, Mark, Start, Data, Tail}
 use Rattle.port.specs.Fields.{with_tx}
 use Rattle.port.specs.Baud.{format_of, boundary}
-use Rattle.shift.specs.Due.{due_now, absent}
+use Rattle.shift.specs.Due.{due_now}
 use Rattle.port.specs.Receiver.{error_free, advance_rx}
-use Rattle.shift.specs.Sender.{holds}
 use Rattle.port.specs.Sender.{loaded, preloaded, preloaded_on, begin, start_at, start_loaded, try_start, try_start_on, one_sent, finish_tail, next_cell, advance_tx, advance_tx_on}
 use Rattle.port.specs.Clocked.{receive_bit, tail_ends, tail_ends_on, sync_edge}
 use Rattle.port.specs.Half.{process_basic}
@@ -34,9 +29,9 @@ Sent n q = q.transmitted ≡ n
 start_sent : (n : ℕ) → StartClosed (Sent n)
 start_sent n = free_start (Sent n) (λ q t u b s x k. k)
 
-pub finish_sent : (l : Loaded) (p : Port) → Sent (suc p.transmitted % wrap) (finish_tail l p)
-finish_sent Nothing p = let n : ℕ = suc p.transmitted % wrap in try_keeps (Sent n) (start_sent n) (one_sent p) refl
-finish_sent (Next ch) p =
+pub finish_sent : (l : Option Character) (p : Port) → Sent (suc p.transmitted % wrap) (finish_tail l p)
+finish_sent None p = let n : ℕ = suc p.transmitted % wrap in try_keeps (Sent n) (start_sent n) (one_sent p) refl
+finish_sent (Some ch) p =
     let n : ℕ = suc p.transmitted % wrap in
     both_arms (Sent n) (ch.format.synchronous && not (error_free p)) _ _ refl (begin_keeps (Sent n) (start_sent n) (one_sent p) ch refl)
 
@@ -47,7 +42,7 @@ clocked_tail (Blocked ch) = false
 clocked_tail (Mark next) = false
 clocked_tail (Start ch next) = false
 clocked_tail (Data ch cell next) = false
-clocked_tail (Tail l next) = absent next
+clocked_tail (Tail l next) = is_none next
 
 -- no step at a due half leads to one
 abbrev Open : Port → Type 0
@@ -57,19 +52,19 @@ begin_open : (p : Port) (ch : Character) → Open (begin p ch)
 unfolding begin
 begin_open p ch = both_arms Open ch.format.synchronous _ _ refl refl
 
-start_open : (l : Loaded) (p : Port) → Open p → Open (start_loaded l p)
+start_open : (l : Option Character) (p : Port) → Open p → Open (start_loaded l p)
 unfolding start_at
-start_open Nothing p o = o
-start_open (Next ch) p o =
+start_open None p o = o
+start_open (Some ch) p o =
     both_arms Open ch.format.synchronous _ _ (begin_open p ch) (both_arms Open (eqb (boundary p ch.format.half_bit) p.half) _ _ (begin_open p ch) refl)
 
 preloaded_open : (p : Port) → Open p → Open (preloaded p)
 unfolding preloaded
 preloaded_open p o = go p.holding
   where
-    go : (x : Holding) → Open (preloaded_on x p)
-    go Empty = o
-    go (Byte v) = o
+    go : (x : Option ℕ) → Open (preloaded_on x p)
+    go None = o
+    go (Some v) = o
 
 try_open : (p : Port) → Open p → Open (try_start p)
 unfolding try_start
@@ -77,7 +72,7 @@ try_open p o = go p.tx
   where
     go : (t : Tx) → Open (try_start_on t p)
     go Off =
-        both_arms Open (has p.scr 0x20 && (holds p.holding && (not (format_of p).synchronous || error_free p))) (start_loaded (loaded p) (preloaded p)) p
+        both_arms Open (has p.scr 0x20 && (is_some p.holding && (not (format_of p).synchronous || error_free p))) (start_loaded (loaded p) (preloaded p)) p
         (start_open (loaded p) (preloaded p) (preloaded_open p o)) o
     go (Blocked ch) = both_arms Open (error_free p) (begin p ch) p (begin_open p ch) o
     go (Mark next) = o
@@ -85,9 +80,9 @@ try_open p o = go p.tx
     go (Data ch cell next) = o
     go (Tail l next) = o
 
-finish_open : (l : Loaded) (p : Port) → Open (finish_tail l p)
-finish_open Nothing p = try_open (one_sent p) refl
-finish_open (Next ch) p = both_arms Open (ch.format.synchronous && not (error_free p)) _ _ refl (begin_open (one_sent p) ch)
+finish_open : (l : Option Character) (p : Port) → Open (finish_tail l p)
+finish_open None p = try_open (one_sent p) refl
+finish_open (Some ch) p = both_arms Open (ch.format.synchronous && not (error_free p)) _ _ refl (begin_open (one_sent p) ch)
 
 next_open : (ch : Character) (cell : ℕ) (p : Port) → Open (next_cell ch cell p)
 unfolding next_cell
@@ -103,8 +98,8 @@ advance_tail p = go p.tx refl
     go (Mark n) e = both_arms Open (eqb n p.half) _ p (try_open (with_tx p Off) refl) (ap clocked_tail e)
     go (Start ch n) e = both_arms Open (eqb n p.half) _ p (begin_open p ch) (ap clocked_tail e)
     go (Data ch cell d) e = both_arms Open (due_now d p.half) _ p (next_open ch (suc cell) p) (ap clocked_tail e)
-    go (Tail l Never) e = ap clocked_tail e
-    go (Tail l (At n)) e = both_arms Open (eqb n p.half) _ p (finish_open l p) (ap clocked_tail e)
+    go (Tail l None) e = ap clocked_tail e
+    go (Tail l (Some n)) e = both_arms Open (eqb n p.half) _ p (finish_open l p) (ap clocked_tail e)
 
 advance_sent : (p : Port) → Sent (tally (finishes_on p.tx false p.half) p.transmitted) (advance_tx p)
 unfolding advance_tx
@@ -119,8 +114,8 @@ advance_sent p = go p.tx
     go (Mark n) = both_arms (Sent T) (eqb n p.half) _ p (try_keeps (Sent T) (start_sent T) (with_tx p Off) refl) refl
     go (Start ch n) = both_arms (Sent T) (eqb n p.half) _ p (begin_keeps (Sent T) (start_sent T) p ch refl) refl
     go (Data ch cell d) = both_arms (Sent T) (due_now d p.half) _ p (next_keeps (Sent T) (start_sent T) ch (suc cell) p refl) refl
-    go (Tail l Never) = refl
-    go (Tail l (At n)) =
+    go (Tail l None) = refl
+    go (Tail l (Some n)) =
         by_cond (Sent (tally (eqb n p.half) T)) (eqb n p.half) _ p (λ e. finish_sent l p ∙ sym (ap (λ (b : Bool). tally b T) e)) (λ e. sym (ap (λ (b : Bool). tally b T) e))
 
 -- the receiver keeps both
@@ -155,8 +150,8 @@ tail_sent p = go p.tx
     go (Mark next) = refl
     go (Start ch next) = refl
     go (Data ch cell next) = refl
-    go (Tail l Never) = finish_sent l p
-    go (Tail l (At n)) = refl
+    go (Tail l None) = finish_sent l p
+    go (Tail l (Some n)) = refl
 
 pub edge_sent : (b : Bool) (p : Port) → Sent (tally (b && clocked_tail p.tx) p.transmitted) (sync_edge b p)
 unfolding sync_edge
@@ -178,5 +173,5 @@ sent_once t r half n = go t
     go (Mark next) = none n
     go (Start ch next) = none n
     go (Data ch cell next) = none n
-    go (Tail l Never) = ap (λ (b : Bool). tally b n) (and-true r)
-    go (Tail l (At k)) = none (tally (eqb k half) n)
+    go (Tail l None) = ap (λ (b : Bool). tally b n) (and-true r)
+    go (Tail l (Some k)) = none (tally (eqb k half) n)

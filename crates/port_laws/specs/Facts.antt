@@ -1,11 +1,9 @@
 -- Document 01's worked cases, computed: direct calls from a fresh port, and what follows. Each table has one theorem, by computation. Its printed run is in
 -- crates/port/specs/Facts.antt.
 -- Assumes nothing.
-use Rattle.std.specs.Prelude.{◌≡◌, refl, ℕ, ◌+◌, ◌-◌, Bool, true, false, cond, ◌&&◌, List, [], ◌∷◌, ◌++◌, eqb, pos}
+use Rattle.std.specs.Prelude.{◌≡◌, refl, ℕ, ◌+◌, ◌-◌, Bool, true, false, cond, ◌&&◌, List, [], ◌∷◌, ◌++◌, eqb, pos, None, Some}
 use Rattle.frame.specs.Frame.{format}
 use Rattle.port.specs.declared.Port.{Port}
-use Rattle.shift.specs.declared.Due.TheVariants.{Never, At}
-use Rattle.shift.specs.declared.Receiver.TheVariants.{Busy}
 use Rattle.shift.specs.declared.Tx.{Tx}
 use Rattle.shift.specs.declared.Tx.TheVariants.{Off, Blocked, Mark, Start, Data, Tail}
 use Rattle.port.specs.Fields.{with_half, with_tx, with_rx, with_sync_next, with_transmitted, with_received}
@@ -35,7 +33,7 @@ at_limit = with_half on limit
 unfoldable pub receiving_at : ℕ → ℕ → Port
 unfolding fresh format
 receiving_at position n =
-    with_rx fresh (Busy (record { format = format 0 0; value = 0; position = pos position; parity = false; error = 0; next = At n }))
+    with_rx fresh (Some (record { format = format 0 0; value = 0; position = pos position; parity = false; error = 0; next = Some n }))
 
 unfoldable pub misplaced : Port
 unfolding receiving_at
@@ -80,10 +78,10 @@ refusals =
     ∷ gives Inside (with_tx fresh (Mark 449)) 8
     ∷ gives Inside (receiving_at 0 448) 0
     ∷ gives Inside (receiving_at 0 449) 8
-    ∷ gives Inside (with_sync_next fresh (At 0)) 8
-    ∷ gives Inside (with_sync_next fresh (At 1)) 0
-    ∷ gives Inside (with_sync_next fresh (At 448)) 0
-    ∷ gives Inside (with_sync_next fresh (At 449)) 8
+    ∷ gives Inside (with_sync_next fresh (Some 0)) 8
+    ∷ gives Inside (with_sync_next fresh (Some 1)) 0
+    ∷ gives Inside (with_sync_next fresh (Some 448)) 0
+    ∷ gives Inside (with_sync_next fresh (Some 449)) 8
     ∷ []
 
 pub refusals_numbered : every as_numbered refusals ≡ true
@@ -169,13 +167,13 @@ status_written = refl
 -- first, each bit would come one clock later
 pub edge_after_work : ((after_calls
     (Power 3 ∷ Line 0 ∷ Write 0xff9a 0x10 ∷ Wait 16 ∷ Write 0xff98 0x80 ∷ Line 1 ∷ Wait 288 ∷ [])).rx
-    ≡ Busy (record { format = format 0x80 0; value = 1; position = pos 1; parity = false; error = 0; next = Never }))
+    ≡ Some (record { format = format 0x80 0; value = 1; position = pos 1; parity = false; error = 0; next = None }))
     × ((after_calls
     (Power 3 ∷ Write 0xff9a 0x30 ∷ Write 0xff9b 0x01 ∷ Wait 350 ∷ Write 0xff98 0x80 ∷ Wait 2 ∷ [])).tx
-    ≡ Data (record { format = format 0x80 0; word = 1 }) 1 Never)
+    ≡ Data (record { format = format 0x80 0; word = 1 }) 1 None)
     × ((after_calls
     (Power 3 ∷ Write 0xff9a 0x20 ∷ Write 0xff9b 0x01 ∷ Write 0xff98 0x80 ∷ Wait 351 ∷ Write 0xff9a 0x22 ∷ Pins 0 1 ∷ [])).tx
-    ≡ Data (record { format = format 0x80 0; word = 1 }) 1 Never)
+    ≡ Data (record { format = format 0x80 0; word = 1 }) 1 None)
 unfolding after_calls format
 edge_after_work = (refl, refl, refl)
 
@@ -183,7 +181,7 @@ edge_after_work = (refl, refl, refl)
 -- begins; receiver first it would wait for the error flag to be cleared
 pub sender_before_receiver : (after_calls
     (Power 3 ∷ Write 0xff9a 0x30 ∷ Write 0xff9b 0x01 ∷ Wait 48 ∷ Line 0 ∷ Wait 4 ∷ Write 0xff98 0x80 ∷ Wait 300 ∷ [])).tx
-    ≡ Data (record { format = format 0x80 0; word = 1 }) 0 Never
+    ≡ Data (record { format = format 0x80 0; word = 1 }) 0 None
 unfolding after_calls format
 sender_before_receiver = refl
 

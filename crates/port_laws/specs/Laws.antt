@@ -1,15 +1,11 @@
 -- The laws of the direct calls: what holds of every port, every call and every list of calls. proofs/Laws.antt has a theorem of each type below.
 -- Assumes nothing.
-use Rattle.std.specs.Prelude.{◌≡◌, ◌⊎◌, ℕ, zero, suc, ◌+◌, ◌%◌, ◌^◌, ◌<◌, Bool, true, false, cond, not, ◌&&◌, List, [], ◌∷◌, eqb}
+use Rattle.std.specs.Prelude.{◌≡◌, ◌⊎◌, ℕ, zero, suc, ◌+◌, ◌%◌, ◌^◌, ◌<◌, Bool, true, false, cond, not, ◌&&◌, List, [], ◌∷◌, eqb, Option, None, Some}
 use Rattle.frame.specs.Frame.{has, one_if}
 use Rattle.port.specs.declared.Port.{Port}
-use Rattle.shift.specs.declared.Due.TheVariants.{Never, At}
-use Rattle.shift.specs.declared.Loaded.{Loaded}
 use Rattle.shift.specs.declared.Tx.{Tx}
 use Rattle.shift.specs.declared.Tx.TheVariants.{Off, Blocked, Mark, Start, Data, Tail}
 use Rattle.shift.specs.declared.Rx.{Rx}
-use Rattle.shift.specs.declared.Receiver.{Receiver}
-use Rattle.shift.specs.declared.Receiver.TheVariants.{Idle, Busy}
 use Rattle.shift.specs.declared.Sampled.{Sampled}
 use Rattle.shift.specs.declared.Sampled.TheVariants.{Dropped, Onward, Whole}
 use Rattle.port.specs.Fields.{with_input_clock}
@@ -25,6 +21,7 @@ use Rattle.port.specs.Valid.{valid}
 use Rattle.command.specs.declared.Command.{Command}
 use Rattle.command.specs.declared.Command.TheVariants.{Read, Write, Wait, Line, Pins, Power, Inside}
 use Rattle.port.specs.Calls.{Answer, done, refused, after, bit, called, direct, run}
+use Rattle.shift.specs.declared.Character.{Character}
 
 -- ---- the field test
 unfoldable pub FreshPasses : Type 0
@@ -79,7 +76,7 @@ WholeWordCounts =
 
 unfoldable pub TailEndCounts : Type 0
 TailEndCounts =
-    (l : Loaded) (p : Port) → let q = finish_tail l p in (q.transmitted ≡ suc p.transmitted % wrap) × (q.received ≡ p.received)
+    (l : Option Character) (p : Port) → let q = finish_tail l p in (q.transmitted ≡ suc p.transmitted % wrap) × (q.received ≡ p.received)
 
 -- the next half or edge ends the tail in the sender: at its due half, and without one at a rising edge of the clock of clocked form
 abbrev pub finishes_on : Tx → Bool → ℕ → Bool
@@ -88,8 +85,8 @@ finishes_on (Blocked ch) rising half = false
 finishes_on (Mark next) rising half = false
 finishes_on (Start ch next) rising half = false
 finishes_on (Data ch cell next) rising half = false
-finishes_on (Tail l Never) rising half = rising
-finishes_on (Tail l (At n)) rising half = eqb n half
+finishes_on (Tail l None) rising half = rising
+finishes_on (Tail l (Some n)) rising half = eqb n half
 
 abbrev pub finishes : Bool → Port → Bool
 finishes rising p = finishes_on p.tx rising (suc p.half)
@@ -101,9 +98,9 @@ clean Dropped = false
 clean (Onward r) = false
 clean (Whole r) = eqb r.error 0
 
-abbrev pub completes_on : Receiver → Bool → Port → Bool
-completes_on Idle rising p = false
-completes_on (Busy r) rising p =
+abbrev pub completes_on : Option Rx → Bool → Port → Bool
+completes_on None rising p = false
+completes_on (Some r) rising p =
     cond r.format.synchronous (rising && (has p.scr 0x10 && (error_free p && (last_bit r.position && eqb r.error 0))))
     (due_now r.next (suc p.half) && clean (sample (format_of p) (input_level p) (suc p.half) r))
 

@@ -2,27 +2,24 @@
 -- three registers; here are the others: seven registers' bytes, the held byte, the received word's value and error, the two tallies.
 -- Proved in proofs/Ranges.antt.
 -- Assumes nothing.
-use Rattle.std.specs.Prelude.{◌≡◌, ℕ, ◌<◌, List}
+use Rattle.std.specs.Prelude.{◌≡◌, ℕ, ◌<◌, List, Option, None, Some}
 use Rattle.port.specs.declared.Port.{Port}
-use Rattle.shift.specs.declared.Holding.{Holding}
-use Rattle.shift.specs.declared.Holding.TheVariants.{Empty, Byte}
-use Rattle.shift.specs.declared.Receiver.{Receiver}
-use Rattle.shift.specs.declared.Receiver.TheVariants.{Idle, Busy}
 use Rattle.port.specs.Power.{fresh}
 use Rattle.command.specs.declared.Command.{Command}
 use Rattle.port.specs.Calls.{done, direct, run}
 use Rattle.port_laws.specs.Laws.{wrap}
+use Rattle.shift.specs.declared.Rx.{Rx}
 
-abbrev pub HeldInRange : Holding → Type 0
-HeldInRange Empty = Unit {0}
-HeldInRange (Byte b) = b < 256
+abbrev pub HeldInRange : Option ℕ → Type 0
+HeldInRange None = Unit {0}
+HeldInRange (Some b) = b < 256
 
-abbrev pub WordInRange : Receiver → Type 0
-WordInRange Idle = Unit {0}
-WordInRange (Busy r) = (r.value < 256) × (r.error < 256)
+abbrev pub WordInRange : Option Rx → Type 0
+WordInRange None = Unit {0}
+WordInRange (Some r) = (r.value < 256) × (r.error < 256)
 
 -- a record of fields, so that a port with other fields changed has the same one
-pub record Ranges (smr brr scr tdr ssr rdr seen : ℕ) (held : Holding) (x : Receiver) (transmitted received : ℕ) : Type 0 where
+pub record Ranges (smr brr scr tdr ssr rdr seen : ℕ) (held : Option ℕ) (x : Option Rx) (transmitted received : ℕ) : Type 0 where
   pub smr< : smr < 256
   pub brr< : brr < 256
   pub scr< : scr < 256

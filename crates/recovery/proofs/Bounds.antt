@@ -1,5 +1,6 @@
 -- The word in the receiver against the half count: its due half is near, in every state that a fresh port comes to.
 -- Assumes nothing.
+use Rattle.std.specs.Prelude.{Option, None, Some}
 use mathlib.Core.Path.{◌≡◌, refl, sym, ap, ◌∙◌, subst}
 use Prim.Native.Nat.{ℕ, zero, suc, ◌+◌, ◌-◌, ◌/◌, ◌^◌, ◌≤◌, ◌<◌}
 use native.Mathlib.Omega.{arith}
@@ -10,10 +11,6 @@ use lib.Bits.{bit_or}
 use lib.IntN.{ℤ, pos, negsuc}
 use borrow.Author.Tests.{ltb-true, eqb-true, eq-eqb, ne_eqb, not-true}
 use Rattle.frame.specs.declared.Format.{Format}
-use Rattle.shift.specs.declared.Due.{Due}
-use Rattle.shift.specs.declared.Due.TheVariants.{At, Never}
-use Rattle.shift.specs.declared.Receiver.{Receiver}
-use Rattle.shift.specs.declared.Receiver.TheVariants.{Busy, Idle}
 use Rattle.shift.specs.declared.Rx.{Rx}
 use Rattle.shift.specs.declared.Sampled.{Sampled}
 use Rattle.shift.specs.declared.Sampled.TheVariants.{Dropped, Onward, Whole}
@@ -45,15 +42,15 @@ near (negsuc (suc zero)) f h t = t ≤ h + 2
 near (negsuc (suc (suc n))) f h t = ⊥
 near (pos j) f h t = (t ≤ h + f.half_bit) × (j ≤ f.«data» + one_if f.parity)
 
-pub data Fits (h : ℕ) : Receiver → Type 0 where
-  no_word : Fits h Idle
-  by_clock : (r : Rx) → r.format.synchronous ≡ true → r.next ≡ Never → Fits h (Busy r)
-  by_half : (r : Rx) (t : ℕ) → r.format.synchronous ≡ false → r.next ≡ At t → h < t → Sound r.format → near r.position r.format h t → Fits h (Busy r)
+pub data Fits (h : ℕ) : Option Rx → Type 0 where
+  no_word : Fits h None
+  by_clock : (r : Rx) → r.format.synchronous ≡ true → r.next ≡ None → Fits h (Some r)
+  by_half : (r : Rx) (t : ℕ) → r.format.synchronous ≡ false → r.next ≡ Some t → h < t → Sound r.format → near r.position r.format h t → Fits h (Some r)
 
 -- ---- a sample
 abbrev OutcomeFits : ℕ → Sampled → Type 0
 OutcomeFits h Dropped = Unit {0}
-OutcomeFits h (Onward r) = Fits h (Busy r)
+OutcomeFits h (Onward r) = Fits h (Some r)
 OutcomeFits h (Whole r) = Unit {0}
 
 sample_fits : (now : Format) (high : Bool) (h : ℕ) (r : Rx) → Sound now → Sound r.format → r.format.synchronous ≡ false
@@ -92,28 +89,28 @@ v_complete_half v r = by_cond (λ (w : View). w.half ≡ v.half) (has v.flags 0x
 outcome_fits : (o : Sampled) (v : View) (h : ℕ) → OutcomeFits h o → Fits h (v_outcome o v).rx
 outcome_fits Dropped v h t = no_word
 outcome_fits (Onward r) v h t = t
-outcome_fits (Whole r) v h t = subst (Fits h) (sym (v_complete_rx (v_rx v Idle) r)) no_word
+outcome_fits (Whole r) v h t = subst (Fits h) (sym (v_complete_rx (v_rx v None) r)) no_word
 
 outcome_half : (o : Sampled) (v : View) → (v_outcome o v).half ≡ v.half
 outcome_half Dropped v = refl
 outcome_half (Onward r) v = refl
-outcome_half (Whole r) v = v_complete_half (v_rx v Idle) r
+outcome_half (Whole r) v = v_complete_half (v_rx v None) r
 
 pub advance_half : (v : View) → (v_advance v).half ≡ v.half
 unfolding v_advance
 advance_half v = go v.rx
   where
-    go : (x : Receiver) → (v_advance_on x v).half ≡ v.half
-    go Idle = refl
-    go (Busy r) = by_cond (λ (w : View). w.half ≡ v.half) (due_now r.next v.half) _ _ (λ e. outcome_half (sample v.fmt v.mark v.half r) v) (λ e. refl)
+    go : (x : Option Rx) → (v_advance_on x v).half ≡ v.half
+    go None = refl
+    go (Some r) = by_cond (λ (w : View). w.half ≡ v.half) (due_now r.next v.half) _ _ (λ e. outcome_half (sample v.fmt v.mark v.half r) v) (λ e. refl)
 
 pub arm_half : (v : View) → (v_arm v).half ≡ v.half
 unfolding v_arm
 arm_half v = go v.rx
   where
-    go : (x : Receiver) → (v_arm_on x v).half ≡ v.half
-    go Idle = by_cond (λ (w : View). w.half ≡ v.half) (v_can_arm v) (v_rx v (Busy (armed v.fmt (fall v.half v.high)))) v (λ e. refl) (λ e. refl)
-    go (Busy r) = refl
+    go : (x : Option Rx) → (v_arm_on x v).half ≡ v.half
+    go None = by_cond (λ (w : View). w.half ≡ v.half) (v_can_arm v) (v_rx v (Some (armed v.fmt (fall v.half v.high)))) v (λ e. refl) (λ e. refl)
+    go (Some r) = refl
 
 fall_after : (h : ℕ) (b : Bool) → h < fall h b
 fall_after h true = omega arith
@@ -133,12 +130,12 @@ pub arm_fits : (v : View) → Sound v.fmt → Fits v.half v.rx → Fits v.half (
 unfolding v_arm
 arm_fits v sf t = go v.rx refl t
   where
-    go : (x : Receiver) → v.rx ≡ x → Fits v.half x → Fits v.half (v_arm_on x v).rx
-    go Idle e g =
-        by_cond (λ (w : View). Fits v.half w.rx) (v_can_arm v) (v_rx v (Busy (armed v.fmt (fall v.half v.high)))) v
+    go : (x : Option Rx) → v.rx ≡ x → Fits v.half x → Fits v.half (v_arm_on x v).rx
+    go None e g =
+        by_cond (λ (w : View). Fits v.half w.rx) (v_can_arm v) (v_rx v (Some (armed v.fmt (fall v.half v.high)))) v
         (λ b. by_half (armed v.fmt (fall v.half v.high)) (fall v.half v.high) (can_plain v b) refl (fall_after v.half v.high) sf (fall_near v.half v.high))
         (λ b. subst (Fits v.half) (sym e) g)
-    go (Busy r) e g = subst (Fits v.half) (sym e) g
+    go (Some r) e g = subst (Fits v.half) (sym e) g
 
 pub nearer : (z : ℤ) (g : Format) (h u : ℕ) → near z g h u → near z g (suc h) u
 nearer (negsuc zero) g h u a = omega arith
@@ -151,11 +148,11 @@ pub advance_fits : (v : View) (h : ℕ) → v.half ≡ suc h → Sound v.fmt →
 unfolding v_advance
 advance_fits v h e sf t = go v.rx refl t
   where
-    go : (x : Receiver) → v.rx ≡ x → Fits h x → Fits (suc h) (v_advance_on x v).rx
+    go : (x : Option Rx) → v.rx ≡ x → Fits h x → Fits (suc h) (v_advance_on x v).rx
     go x q no_word = subst (Fits (suc h)) (sym q) no_word
     go x q (by_clock r c n) = rw (n, q) (by_clock r c n)
     go x q (by_half r u c n lt sr nr) =
-        subst (λ (y : Due). Fits (suc h) (cond (due_now y v.half) (v_outcome (sample v.fmt v.mark v.half r) v) v).rx) (sym n) (due (ℕ_discrete u v.half))
+        subst (λ (y : Option ℕ). Fits (suc h) (cond (due_now y v.half) (v_outcome (sample v.fmt v.mark v.half r) v) v).rx) (sym n) (due (ℕ_discrete u v.half))
       where
         due : Dec (u ≡ v.half) → Fits (suc h) (cond (eqb u v.half) (v_outcome (sample v.fmt v.mark v.half r) v) v).rx
         due (yes d) =
@@ -170,7 +167,7 @@ pub advance_quiet : (v : View) → Fits v.half v.rx → v_advance v ≡ v
 unfolding v_advance
 advance_quiet v t = go v.rx t
   where
-    go : (x : Receiver) → Fits v.half x → v_advance_on x v ≡ v
+    go : (x : Option Rx) → Fits v.half x → v_advance_on x v ≡ v
     go x no_word = refl
     go x (by_clock r c n) = rw n
     go x (by_half r u c n lt sr nr) = rw (n, ne_eqb u v.half (omega arith))
@@ -179,14 +176,14 @@ pub arm_twice : (v : View) → v_arm (v_arm v) ≡ v_arm v
 unfolding v_arm
 arm_twice v = go v.rx refl
   where
-    go : (x : Receiver) → v.rx ≡ x → v_arm_on (v_arm_on x v).rx (v_arm_on x v) ≡ v_arm_on x v
-    go Idle e = two (v_can_arm v) refl
+    go : (x : Option Rx) → v.rx ≡ x → v_arm_on (v_arm_on x v).rx (v_arm_on x v) ≡ v_arm_on x v
+    go None e = two (v_can_arm v) refl
       where
-        two : (b : Bool) → v_can_arm v ≡ b → v_arm_on (cond b (v_rx v (Busy (armed v.fmt (fall v.half v.high)))) v).rx (cond b (v_rx v (Busy (armed v.fmt (fall v.half v.high)))) v)
-            ≡ cond b (v_rx v (Busy (armed v.fmt (fall v.half v.high)))) v
+        two : (b : Bool) → v_can_arm v ≡ b → v_arm_on (cond b (v_rx v (Some (armed v.fmt (fall v.half v.high)))) v).rx (cond b (v_rx v (Some (armed v.fmt (fall v.half v.high)))) v)
+            ≡ cond b (v_rx v (Some (armed v.fmt (fall v.half v.high)))) v
         two true q = refl
         two false q = rw (e, q)
-    go (Busy r) e = rw e
+    go (Some r) e = rw e
 
 pub advance_fmt : (v : View) → (v_advance v).fmt ≡ v.fmt
 unfolding v_advance
@@ -198,9 +195,9 @@ advance_fmt v = go v.rx
     outc (Whole r) =
         by_cond (λ (w : View). w.fmt ≡ v.fmt) (has v.flags 0x40) _ _ (λ e. refl) (λ e. by_cond (λ (w : View). w.fmt ≡ v.fmt) (eqb r.error 0) _ _ (λ g. refl) (λ g. refl))
 
-    go : (x : Receiver) → (v_advance_on x v).fmt ≡ v.fmt
-    go Idle = refl
-    go (Busy r) = by_cond (λ (w : View). w.fmt ≡ v.fmt) (due_now r.next v.half) (v_outcome (sample v.fmt v.mark v.half r) v) v (λ e. outc (sample v.fmt v.mark v.half r)) (λ e. refl)
+    go : (x : Option Rx) → (v_advance_on x v).fmt ≡ v.fmt
+    go None = refl
+    go (Some r) = by_cond (λ (w : View). w.fmt ≡ v.fmt) (due_now r.next v.half) (v_outcome (sample v.fmt v.mark v.half r) v) v (λ e. outc (sample v.fmt v.mark v.half r)) (λ e. refl)
 
 -- basic work at a counted half keeps the bound, and done twice is done once
 pub basic_fits : (v : View) (h : ℕ) → v.half ≡ suc h → Sound v.fmt → Fits h v.rx → Fits (suc h) (v_basic v).rx

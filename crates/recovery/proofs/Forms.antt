@@ -1,6 +1,7 @@
 -- What word the receiver can hold, by RE and the format: with RE clear none; and none of clocked form, where there was none and SMR asks for start-stop form.
 -- Both are kept by every call, and both for one reason, so the way through the port's steps is gone once.
 -- Assumes nothing.
+use Rattle.std.specs.Prelude.{Option, None, Some, is_some}
 use mathlib.Core.Path.{◌≡◌, refl, sym, ap, ◌∙◌, subst}
 use Prim.Native.Nat.{ℕ, zero, suc, ◌+◌}
 use mathlib.Core.Bool.{Bool, true, false, not, cond, ◌&&◌, ◌||◌, true≢false}
@@ -10,8 +11,6 @@ use lib.Bits.{bit_and}
 use borrow.Author.Tests.{not-true}
 use Rattle.frame.specs.declared.Format.{Format}
 use Rattle.port.specs.declared.Port.{Port}
-use Rattle.shift.specs.declared.Receiver.{Receiver}
-use Rattle.shift.specs.declared.Receiver.TheVariants.{Busy, Idle}
 use Rattle.shift.specs.declared.Rx.{Rx}
 use Rattle.shift.specs.declared.Sampled.{Sampled}
 use Rattle.shift.specs.declared.Sampled.TheVariants.{Dropped, Onward, Whole}
@@ -32,8 +31,6 @@ use Rattle.port.specs.Sender.{try_start}
 use Rattle.port.specs.Valid.{limit, valid}
 use Rattle.shift.specs.Due.{due_now}
 use Rattle.shift.specs.Receiver.{armed, bit_taken, clocked_word, last_bit, rx_clocked, rx_due_on, sample}
-use Rattle.shift.specs.Sender.{holds}
-use Rattle.shift.specs.declared.Due.TheVariants.{Never}
 use Rattle.branches.proofs.Branches.{both_arms, by_cond}
 use Rattle.recovery.specs.Outside.{StartStopSince, keeps_start_stop}
 use Rattle.recovery.specs.Recovery.{Wired, accepted, each, run_wired, start, wired_after}
@@ -46,20 +43,20 @@ use Rattle.recovery.proofs.View.{View, fall, v_advance, v_advance_on, v_arm, v_a
 
 -- what is said of the receiver, by the format and RE
 abbrev Said : Type 1
-Said = Format → Bool → Receiver → Type 0
+Said = Format → Bool → Option Rx → Type 0
 
 abbrev AfterSample : Said → Format → Bool → Sampled → Type 0
 AfterSample Q f on Dropped = Unit {0}
-AfterSample Q f on (Onward r) = Q f on (Busy r)
+AfterSample Q f on (Onward r) = Q f on (Some r)
 AfterSample Q f on (Whole r) = Unit {0}
 
 -- it is kept where a word goes, begins, is sampled, or takes a bit
 record Kept (Q : Said) : Type 0 where
-  pub goes : (f : Format) (on : Bool) (x : Receiver) → Q f on x → Q f on Idle
-  pub begins : (f : Format) (on : Bool) (t : ℕ) → on ≡ true → f.synchronous ≡ false → Q f on Idle → Q f on (Busy (armed f t))
-  pub sampled : (f : Format) (on high : Bool) (h : ℕ) (r : Rx) → Q f on (Busy r) → AfterSample Q f on (sample f high h r)
-  pub clocked : (f : Format) (on high : Bool) → on ≡ true → f.synchronous ≡ true → Q f on Idle → Q f on (Busy (bit_taken high (clocked_word f)))
-  pub taken : (f : Format) (on high : Bool) (r : Rx) → Q f on (Busy r) → Q f on (Busy (bit_taken high r))
+  pub goes : (f : Format) (on : Bool) (x : Option Rx) → Q f on x → Q f on None
+  pub begins : (f : Format) (on : Bool) (t : ℕ) → on ≡ true → f.synchronous ≡ false → Q f on None → Q f on (Some (armed f t))
+  pub sampled : (f : Format) (on high : Bool) (h : ℕ) (r : Rx) → Q f on (Some r) → AfterSample Q f on (sample f high h r)
+  pub clocked : (f : Format) (on high : Bool) → on ≡ true → f.synchronous ≡ true → Q f on None → Q f on (Some (bit_taken high (clocked_word f)))
+  pub taken : (f : Format) (on high : Bool) (r : Rx) → Q f on (Some r) → Q f on (Some (bit_taken high r))
 
 module _ (Q : Said) (k : Kept Q) where
   abbrev In : View → Type 0
@@ -76,13 +73,13 @@ module _ (Q : Said) (k : Kept Q) where
   unfolding v_arm
   arm_in v t = go v.rx t
     where
-      go : (x : Receiver) → Q v.fmt v.on x → In (v_arm_on x v)
-      go Idle g =
-          by_cond In (v_can_arm v) (v_rx v (Busy (armed v.fmt (fall v.half v.high)))) v
+      go : (x : Option Rx) → Q v.fmt v.on x → In (v_arm_on x v)
+      go None g =
+          by_cond In (v_can_arm v) (v_rx v (Some (armed v.fmt (fall v.half v.high)))) v
           (λ e. k.begins v.fmt v.on (fall v.half v.high) (and_left v.on _ e)
           (not-true v.fmt.synchronous (and_left (not v.fmt.synchronous) _ (and_right (not (has v.flags 0x38)) _ (and_right v.on _ e)))) g)
           (λ e. t)
-      go (Busy r) g = t
+      go (Some r) g = t
 
   complete_in : (v : View) (r : Rx) → In v → In (v_complete v r)
   complete_in v r t = by_cond In (has v.flags 0x40) _ _ (λ e. t) (λ e. by_cond In (eqb r.error 0) _ _ (λ g. t) (λ g. t))
@@ -90,15 +87,15 @@ module _ (Q : Said) (k : Kept Q) where
   outcome_in : (o : Sampled) (v : View) → In v → AfterSample Q v.fmt v.on o → In (v_outcome o v)
   outcome_in Dropped v t g = k.goes v.fmt v.on v.rx t
   outcome_in (Onward r) v t g = g
-  outcome_in (Whole r) v t g = complete_in (v_rx v Idle) r (k.goes v.fmt v.on v.rx t)
+  outcome_in (Whole r) v t g = complete_in (v_rx v None) r (k.goes v.fmt v.on v.rx t)
 
   advance_in : (v : View) → In v → In (v_advance v)
   unfolding v_advance
   advance_in v t = go v.rx t
     where
-      go : (x : Receiver) → Q v.fmt v.on x → In (v_advance_on x v)
-      go Idle g = t
-      go (Busy r) g =
+      go : (x : Option Rx) → Q v.fmt v.on x → In (v_advance_on x v)
+      go None g = t
+      go (Some r) g =
           by_cond In (due_now r.next v.half) (v_outcome (sample v.fmt v.mark v.half r) v) v
           (λ e. outcome_in (sample v.fmt v.mark v.half r) v t (k.sampled v.fmt v.on v.mark v.half r g)) (λ e. t)
 
@@ -113,12 +110,12 @@ module _ (Q : Said) (k : Kept Q) where
   of_refresh p t = of_view (refresh_sync_clock p) p (view_refresh p) t
 
   -- ---- the clocked edge
-  of_take_bit : (p : Port) (r : Rx) → Of p → Q (format_of p) (has p.scr 0x10) (Busy (bit_taken (input_level p) r)) → Of (take_bit p r)
+  of_take_bit : (p : Port) (r : Rx) → Of p → Q (format_of p) (has p.scr 0x10) (Some (bit_taken (input_level p) r)) → Of (take_bit p r)
   unfolding take_bit
   of_take_bit p r t g =
-      by_cond Of (last_bit r.position) (complete_receive (with_rx p Idle) (bit_taken (input_level p) r)) (with_rx p (Busy (bit_taken (input_level p) r)))
-      (λ e. subst In (sym (view_complete (with_rx p Idle) (bit_taken (input_level p) r)))
-      (complete_in (view (with_rx p Idle)) (bit_taken (input_level p) r) (k.goes (format_of p) (has p.scr 0x10) p.rx t)))
+      by_cond Of (last_bit r.position) (complete_receive (with_rx p None) (bit_taken (input_level p) r)) (with_rx p (Some (bit_taken (input_level p) r)))
+      (λ e. subst In (sym (view_complete (with_rx p None) (bit_taken (input_level p) r)))
+      (complete_in (view (with_rx p None)) (bit_taken (input_level p) r) (k.goes (format_of p) (has p.scr 0x10) p.rx t)))
       (λ e. g)
 
   of_receive_bit : (p : Port) → Of p → Of (receive_bit p)
@@ -126,11 +123,11 @@ module _ (Q : Said) (k : Kept Q) where
   of_receive_bit p t =
       by_cond Of (has p.scr 0x10 && error_free p) (receive_bit_on p.rx p) p (λ e. go (and_left (has p.scr 0x10) (error_free p) e) p.rx t) (λ e. t)
     where
-      go : has p.scr 0x10 ≡ true → (x : Receiver) → Q (format_of p) (has p.scr 0x10) x → Of (receive_bit_on x p)
-      go o Idle g =
+      go : has p.scr 0x10 ≡ true → (x : Option Rx) → Q (format_of p) (has p.scr 0x10) x → Of (receive_bit_on x p)
+      go o None g =
           by_cond Of (format_of p).synchronous (take_bit p (clocked_word (format_of p))) p
           (λ e. of_take_bit p (clocked_word (format_of p)) t (k.clocked (format_of p) (has p.scr 0x10) (input_level p) o e g)) (λ e. t)
-      go o (Busy r) g =
+      go o (Some r) g =
           by_cond Of r.format.synchronous (take_bit p r) p (λ e. of_take_bit p r t (k.taken (format_of p) (has p.scr 0x10) (input_level p) r g)) (λ e. t)
 
   of_sync_edge : (b : Bool) (p : Port) → Of p → Of (sync_edge b p)
@@ -141,8 +138,8 @@ module _ (Q : Said) (k : Kept Q) where
   of_clocked_edge : (p : Port) → Of p → Of (clocked_edge p)
   unfolding clocked_edge
   of_clocked_edge p t =
-      by_cond Of (due_now p.sync_next p.half) (sync_edge (not p.sck) (with_clock p Never (not p.sck))) p
-      (λ e. of_sync_edge (not p.sck) (with_clock p Never (not p.sck)) t) (λ e. t)
+      by_cond Of (due_now p.sync_next p.half) (sync_edge (not p.sck) (with_clock p None (not p.sck))) p
+      (λ e. of_sync_edge (not p.sck) (with_clock p None (not p.sck)) t) (λ e. t)
 
   -- ---- halves, pins, stores
   of_half : (p : Port) → Of p → Of (half_step p)
@@ -181,11 +178,11 @@ module _ (Q : Said) (k : Kept Q) where
   of_read a p t = by_cond Of (eqb a 0xff9c) _ _ (λ e. t) (λ e. by_cond Of (eqb a 0xff9d) _ _ (λ g. t) (λ g. t))
 
   -- stores: SCR sets RE, SMR and SEMR the format, no other touches any of it
-  of_scr : (v : ℕ) (p : Port) → (has v 0x10 ≡ true → Q (format_of p) (has (bit_and v 0xf7) 0x10) p.rx) → Q (format_of p) (has (bit_and v 0xf7) 0x10) Idle → Of (write_scr v p)
+  of_scr : (v : ℕ) (p : Port) → (has v 0x10 ≡ true → Q (format_of p) (has (bit_and v 0xf7) 0x10) p.rx) → Q (format_of p) (has (bit_and v 0xf7) 0x10) None → Of (write_scr v p)
   unfolding write_scr
   of_scr v p t z =
-      by_cond Of (has v 0x10) (scr_tx (has p.scr 0x20) v s) (with_rx (scr_tx (has p.scr 0x20) v s) Idle) (λ e. sender Of (t e) (t e) (t e))
-      (λ e. sender (λ (q : Port). Q (format_of q) (has q.scr 0x10) Idle) z z z)
+      by_cond Of (has v 0x10) (scr_tx (has p.scr 0x20) v s) (with_rx (scr_tx (has p.scr 0x20) v s) None) (λ e. sender Of (t e) (t e) (t e))
+      (λ e. sender (λ (q : Port). Q (format_of q) (has q.scr 0x10) None) z z z)
     where
       s : Port
       s = with_scr p (bit_and v 0xf7)
@@ -203,7 +200,7 @@ module _ (Q : Said) (k : Kept Q) where
   unfolding status_write status_with
   of_ssr v p t =
       by_cond Of (has p.scr 0x20) _ _
-      (λ e. by_cond Of (not (has (cleared v p) 0x80) && not (holds p.holding)) _ _ (λ g. t) (λ g. t)) (λ e. t)
+      (λ e. by_cond Of (not (has (cleared v p) 0x80) && not (is_some p.holding)) _ _ (λ g. t) (λ g. t)) (λ e. t)
 
   of_stored : (a v : ℕ) (p : Port) → Of p → Of (write_scr v p) → (eqb a 0xff98 ≡ true → Of (with_smr p v)) → Of (with_semr p (bit_and v 8)) → Of (stored a v p)
   of_stored a v p t scr smr semr = by_stored Of a v p t smr t scr (of_tdr v p t) (of_ssr v p t) t semr t
@@ -223,7 +220,7 @@ module _ (Q : Said) (k : Kept Q) where
       q : Port
       q = try_start (load_tail r)
 
-  of_power : (a b c d : Bool) (p : Port) → Of p → Q (format 0 0) false Idle → Of (set_power a b c d p)
+  of_power : (a b c d : Bool) (p : Port) → Of p → Q (format 0 0) false None → Of (set_power a b c d p)
   unfolding set_power reset reset_registers fresh
   of_power a b c d p t g =
       of_refresh (with_power q a b c d) (by_cond Of (not a && p.«module») _ _ (λ e. g) (λ e. by_cond Of (d && not p.reset_mode) _ _ (λ h. g) (λ h. t)))
@@ -244,7 +241,7 @@ module _ (Q : Said) (k : Kept Q) where
       Stores : Answer → Type 0
       Stores r = (accepted r ≡ true → Of (stored a v p)) → OfAfter r
 
-  of_called : (c : Command) (p : Port) → Of p → Q (format 0 0) false Idle → ((a v : ℕ) → c ≡ Write a v → accepted (called c p) ≡ true → Of (stored a v p)) → Of (after (called c p))
+  of_called : (c : Command) (p : Port) → Of p → Q (format 0 0) false None → ((a v : ℕ) → c ≡ Write a v → accepted (called c p) ≡ true → Of (stored a v p)) → Of (after (called c p))
   unfolding called
   of_called (Read a) p t z s = both_arms OfAfter (leb a 65535) _ _ (both_arms OfAfter (handles a) _ _ (of_read a p t) t) t
   of_called (Write a v) p t z s = of_writes a v p t (s a v refl)
@@ -258,7 +255,7 @@ module _ (Q : Said) (k : Kept Q) where
   of_called (Power b) p t z s = both_arms OfAfter (leb b 15) _ _ (of_power (has b 1) (has b 2) (has b 4) (has b 8) p t z) t
   of_called Inside p t z s = t
 
-  of_direct : (c : Command) (p : Port) → Of p → Q (format 0 0) false Idle → ((a v : ℕ) → c ≡ Write a v → accepted (direct c p) ≡ true → Of (stored a v p)) → Of (after (direct c p))
+  of_direct : (c : Command) (p : Port) → Of p → Q (format 0 0) false None → ((a v : ℕ) → c ≡ Write a v → accepted (direct c p) ≡ true → Of (stored a v p)) → Of (after (direct c p))
   unfolding direct
   of_direct c p t z =
       by_cond Stores (valid p) (called c p) (refuse 8 p) (λ e. of_called c p t z) (λ e s. t)
@@ -266,13 +263,13 @@ module _ (Q : Said) (k : Kept Q) where
       Stores : Answer → Type 0
       Stores r = ((a v : ℕ) → c ≡ Write a v → accepted r ≡ true → Of (stored a v p)) → OfAfter r
 
--- ---- with RE clear the receiver holds no word
+-- ---- with RE clear the receiver is_some no word
 abbrev EmptyIfOff : Said
-EmptyIfOff f on x = on ≡ false → x ≡ Idle
+EmptyIfOff f on x = on ≡ false → x ≡ None
 
-abbrev busy : Receiver → Bool
-busy Idle = false
-busy (Busy r) = true
+abbrev busy : Option Rx → Bool
+busy None = false
+busy (Some r) = true
 
 empty_if_off : Kept EmptyIfOff
 empty_if_off =
@@ -284,7 +281,7 @@ empty_if_off =
       taken = λ f on high r q e. absurd (true≢false (ap busy (q e)));
     }
   where
-    go : (f : Format) (on : Bool) (r : Rx) → EmptyIfOff f on (Busy r) → (o : Sampled) → AfterSample EmptyIfOff f on o
+    go : (f : Format) (on : Bool) (r : Rx) → EmptyIfOff f on (Some r) → (o : Sampled) → AfterSample EmptyIfOff f on o
     go f on r q Dropped = tt
     go f on r q (Onward r') = λ e. absurd (true≢false (ap busy (q e)))
     go f on r q (Whole r') = tt
@@ -339,6 +336,6 @@ pub no_clocked_word : (calls : List Command) → StartStopSince direct calls →
 unfolding fresh format
 no_clocked_word calls s =
     let q : Wired = run_wired direct start s.before in
-    let idle : q.port.rx ≡ Idle = subst (Of EmptyIfOff empty_if_off) (run_is s.before start) (empty_if_off_run s.before fresh (λ e. refl)) s.re_clear in
+    let idle : q.port.rx ≡ None = subst (Of EmptyIfOff empty_if_off) (run_is s.before start) (empty_if_off_run s.before fresh (λ e. refl)) s.re_clear in
     ap (λ (cs : List Command). rx_clocked (run_wired direct start cs).port.rx) s.split ∙ ap (λ (w : Wired). rx_clocked w.port.rx) (run_append direct s.before s.since start)
     ∙ (none_clocked_run s.since q s.kept (s.start_stop, ap rx_clocked idle)).1

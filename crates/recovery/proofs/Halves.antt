@@ -1,5 +1,6 @@
 -- One half of the port: what stands still, the bound, and, with no clocked word in the receiver, the view.
 -- Assumes nothing.
+use Rattle.std.specs.Prelude.{Option, None, Some}
 use mathlib.Core.Path.{◌≡◌, refl, sym, ap, ◌∙◌, subst}
 use Prim.Native.Nat.{ℕ, zero, suc, ◌^◌}
 use mathlib.Core.Bool.{Bool, true, false, cond, not, ◌&&◌, ◌||◌, true≢false}
@@ -7,10 +8,7 @@ use lib.Dec.{eqb, ltb}
 use lib.Bits.{bit_or}
 use lib.IntN.{ℤ, pos, negsuc}
 use Rattle.frame.specs.declared.Format.{Format}
-use Rattle.shift.specs.declared.Due.TheVariants.{Never}
 use Rattle.port.specs.declared.Port.{Port}
-use Rattle.shift.specs.declared.Receiver.{Receiver}
-use Rattle.shift.specs.declared.Receiver.TheVariants.{Busy, Idle}
 use Rattle.shift.specs.declared.Rx.{Rx}
 use Rattle.shift.specs.declared.Sampled.{Sampled}
 use Rattle.shift.specs.declared.Sampled.TheVariants.{Dropped, Onward, Whole}
@@ -46,15 +44,15 @@ core_complete v r =
 core_outcome : (o : Sampled) (v : View) → core (v_outcome o v) ≡ core v
 core_outcome Dropped v = refl
 core_outcome (Onward r) v = refl
-core_outcome (Whole r) v = core_complete (v_rx v Idle) r
+core_outcome (Whole r) v = core_complete (v_rx v None) r
 
 pub core_advance : (v : View) → core (v_advance v) ≡ core v
 unfolding v_advance
 core_advance v = go v.rx
   where
-    go : (x : Receiver) → core (v_advance_on x v) ≡ core v
-    go Idle = refl
-    go (Busy r) =
+    go : (x : Option Rx) → core (v_advance_on x v) ≡ core v
+    go None = refl
+    go (Some r) =
         by_cond (λ (w : View). core w ≡ core v) (due_now r.next v.half) (v_outcome (sample v.fmt v.mark v.half r) v) v
         (λ e. core_outcome (sample v.fmt v.mark v.half r) v) (λ e. refl)
 
@@ -62,9 +60,9 @@ pub core_arm : (v : View) → core (v_arm v) ≡ core v
 unfolding v_arm
 core_arm v = go v.rx
   where
-    go : (x : Receiver) → core (v_arm_on x v) ≡ core v
-    go Idle = by_cond (λ (w : View). core w ≡ core v) (v_can_arm v) (v_rx v (Busy (armed v.fmt (fall v.half v.high)))) v (λ e. refl) (λ e. refl)
-    go (Busy r) = refl
+    go : (x : Option Rx) → core (v_arm_on x v) ≡ core v
+    go None = by_cond (λ (w : View). core w ≡ core v) (v_can_arm v) (v_rx v (Some (armed v.fmt (fall v.half v.high)))) v (λ e. refl) (λ e. refl)
+    go (Some r) = refl
 
 pub core_basic : (v : View) → core (v_basic v) ≡ core v
 unfolding v_basic
@@ -74,25 +72,25 @@ core_basic v = core_arm (v_advance v) ∙ core_advance v
 core_take_bit : (p : Port) (r : Rx) → core (view (take_bit p r)) ≡ core (view p)
 unfolding take_bit
 core_take_bit p r =
-    by_cond (λ (q : Port). core (view q) ≡ core (view p)) (last_bit r.position) (complete_receive (with_rx p Idle) (bit_taken (input_level p) r)) (with_rx p (Busy (bit_taken (input_level p) r)))
-    (λ e. ap core (view_complete (with_rx p Idle) (bit_taken (input_level p) r)) ∙ core_complete (view (with_rx p Idle)) (bit_taken (input_level p) r)) (λ e. refl)
+    by_cond (λ (q : Port). core (view q) ≡ core (view p)) (last_bit r.position) (complete_receive (with_rx p None) (bit_taken (input_level p) r)) (with_rx p (Some (bit_taken (input_level p) r)))
+    (λ e. ap core (view_complete (with_rx p None) (bit_taken (input_level p) r)) ∙ core_complete (view (with_rx p None)) (bit_taken (input_level p) r)) (λ e. refl)
 
 core_receive_bit : (p : Port) → core (view (receive_bit p)) ≡ core (view p)
 unfolding receive_bit
 core_receive_bit p =
     by_cond (λ (q : Port). core (view q) ≡ core (view p)) (has p.scr 0x10 && error_free p) (receive_bit_on p.rx p) p (λ e. go p.rx) (λ e. refl)
   where
-    go : (x : Receiver) → core (view (receive_bit_on x p)) ≡ core (view p)
-    go Idle = by_cond (λ (q : Port). core (view q) ≡ core (view p)) (format_of p).synchronous (take_bit p (clocked_word (format_of p))) p (λ e. core_take_bit p (clocked_word (format_of p))) (λ e. refl)
-    go (Busy r) = by_cond (λ (q : Port). core (view q) ≡ core (view p)) r.format.synchronous (take_bit p r) p (λ e. core_take_bit p r) (λ e. refl)
+    go : (x : Option Rx) → core (view (receive_bit_on x p)) ≡ core (view p)
+    go None = by_cond (λ (q : Port). core (view q) ≡ core (view p)) (format_of p).synchronous (take_bit p (clocked_word (format_of p))) p (λ e. core_take_bit p (clocked_word (format_of p))) (λ e. refl)
+    go (Some r) = by_cond (λ (q : Port). core (view q) ≡ core (view p)) r.format.synchronous (take_bit p r) p (λ e. core_take_bit p r) (λ e. refl)
 
-pub complete_rx : (p : Port) (r : Rx) → (complete_receive (with_rx p Idle) r).rx ≡ Idle
-complete_rx p r = ap (λ (v : View). v.rx) (view_complete (with_rx p Idle) r) ∙ v_complete_rx (view (with_rx p Idle)) r
+pub complete_rx : (p : Port) (r : Rx) → (complete_receive (with_rx p None) r).rx ≡ None
+complete_rx p r = ap (λ (v : View). v.rx) (view_complete (with_rx p None) r) ∙ v_complete_rx (view (with_rx p None)) r
 
-take_bit_fits : (p : Port) (h : ℕ) (r : Rx) → r.format.synchronous ≡ true → r.next ≡ Never → Fits h (take_bit p r).rx
+take_bit_fits : (p : Port) (h : ℕ) (r : Rx) → r.format.synchronous ≡ true → r.next ≡ None → Fits h (take_bit p r).rx
 unfolding take_bit
 take_bit_fits p h r c n =
-    by_cond (λ (q : Port). Fits h q.rx) (last_bit r.position) (complete_receive (with_rx p Idle) (bit_taken (input_level p) r)) (with_rx p (Busy (bit_taken (input_level p) r)))
+    by_cond (λ (q : Port). Fits h q.rx) (last_bit r.position) (complete_receive (with_rx p None) (bit_taken (input_level p) r)) (with_rx p (Some (bit_taken (input_level p) r)))
     (λ e. subst (Fits h) (sym (complete_rx p (bit_taken (input_level p) r))) no_word) (λ e. by_clock (bit_taken (input_level p) r) c n)
 
 receive_bit_fits : (p : Port) (h : ℕ) → Fits h p.rx → Fits h (receive_bit p).rx
@@ -100,7 +98,7 @@ unfolding receive_bit
 receive_bit_fits p h t =
     by_cond (λ (q : Port). Fits h q.rx) (has p.scr 0x10 && error_free p) (receive_bit_on p.rx p) p (λ e. go p.rx refl t) (λ e. t)
   where
-    go : (x : Receiver) → p.rx ≡ x → Fits h x → Fits h (receive_bit_on x p).rx
+    go : (x : Option Rx) → p.rx ≡ x → Fits h x → Fits h (receive_bit_on x p).rx
     go x q no_word =
         by_cond (λ (q : Port). Fits h q.rx) (format_of p).synchronous (take_bit p (clocked_word (format_of p))) p
         (λ e. take_bit_fits p h (clocked_word (format_of p)) e refl) (λ e. t)
@@ -122,14 +120,14 @@ sync_edge_fits false p h t = subst (Fits h) (sym (ap (λ (v : View). v.rx) (view
 core_clocked_step : (p : Port) → core (view (clocked_edge p)) ≡ core (view p)
 unfolding clocked_edge
 core_clocked_step p =
-    by_cond (λ (q : Port). core (view q) ≡ core (view p)) (due_now p.sync_next p.half) (sync_edge (not p.sck) (with_clock p Never (not p.sck))) p
-    (λ e. core_sync_edge (not p.sck) (with_clock p Never (not p.sck))) (λ e. refl)
+    by_cond (λ (q : Port). core (view q) ≡ core (view p)) (due_now p.sync_next p.half) (sync_edge (not p.sck) (with_clock p None (not p.sck))) p
+    (λ e. core_sync_edge (not p.sck) (with_clock p None (not p.sck))) (λ e. refl)
 
 clocked_step_fits : (p : Port) (h : ℕ) → Fits h p.rx → Fits h (clocked_edge p).rx
 unfolding clocked_edge
 clocked_step_fits p h t =
-    by_cond (λ (q : Port). Fits h q.rx) (due_now p.sync_next p.half) (sync_edge (not p.sck) (with_clock p Never (not p.sck))) p
-    (λ e. sync_edge_fits (not p.sck) (with_clock p Never (not p.sck)) h t) (λ e. t)
+    by_cond (λ (q : Port). Fits h q.rx) (due_now p.sync_next p.half) (sync_edge (not p.sck) (with_clock p None (not p.sck))) p
+    (λ e. sync_edge_fits (not p.sck) (with_clock p None (not p.sck)) h t) (λ e. t)
 
 -- the basic work of a half is done once
 pub early_basic : (p : Port) → Fits p.half p.rx → view (process_basic (sync (counted p))) ≡ v_basic (v_count (view p))
@@ -168,21 +166,21 @@ sample_plain now high h r c d (pos j) =
     by_cond OutcomePlain (ltb j r.format.«data») (Onward (stepped h (pos j) (cond high (bit_or r.value (2 ^ j)) r.value) (differ r.parity high) r.error r)) _
     (λ e. d) (λ e. by_cond OutcomePlain (eqb j r.format.«data» && r.format.parity) (Onward (stepped h (pos j) r.value r.parity (cond (differ high (differ r.parity r.format.odd)) (bit_or r.error 8) r.error) r)) (Whole (stopped high r)) (λ g. d) (λ g. tt))
 
-abbrev pub Plain : Receiver → Type 0
+abbrev pub Plain : Option Rx → Type 0
 Plain x = rx_clocked x ≡ false
 
 outcome_plain : (o : Sampled) (v : View) → OutcomePlain o → Plain (v_outcome o v).rx
 outcome_plain Dropped v t = refl
 outcome_plain (Onward r) v t = t
-outcome_plain (Whole r) v t = ap rx_clocked (v_complete_rx (v_rx v Idle) r)
+outcome_plain (Whole r) v t = ap rx_clocked (v_complete_rx (v_rx v None) r)
 
 advance_plain : (v : View) → v.fmt.synchronous ≡ false → Plain v.rx → Plain (v_advance v).rx
 unfolding v_advance
 advance_plain v c t = go v.rx t
   where
-    go : (x : Receiver) → Plain x → Plain (v_advance_on x v).rx
-    go Idle g = t
-    go (Busy r) g =
+    go : (x : Option Rx) → Plain x → Plain (v_advance_on x v).rx
+    go None g = t
+    go (Some r) g =
         by_cond (λ (w : View). Plain w.rx) (due_now r.next v.half) (v_outcome (sample v.fmt v.mark v.half r) v) v
         (λ e. outcome_plain (sample v.fmt v.mark v.half r) v (sample_plain v.fmt v.mark v.half r c g r.position)) (λ e. t)
 
@@ -190,9 +188,9 @@ arm_plain : (v : View) → v.fmt.synchronous ≡ false → Plain v.rx → Plain 
 unfolding v_arm
 arm_plain v c t = go v.rx
   where
-    go : (x : Receiver) → Plain (v_arm_on x v).rx
-    go Idle = by_cond (λ (w : View). Plain w.rx) (v_can_arm v) (v_rx v (Busy (armed v.fmt (fall v.half v.high)))) v (λ e. c) (λ e. t)
-    go (Busy r) = t
+    go : (x : Option Rx) → Plain (v_arm_on x v).rx
+    go None = by_cond (λ (w : View). Plain w.rx) (v_can_arm v) (v_rx v (Some (armed v.fmt (fall v.half v.high)))) v (λ e. c) (λ e. t)
+    go (Some r) = t
 
 pub basic_plain : (v : View) → v.fmt.synchronous ≡ false → Plain v.rx → Plain (v_basic v).rx
 unfolding v_basic
@@ -203,9 +201,9 @@ unfolding receive_bit
 receive_bit_plain p c t =
     same_either (has p.scr 0x10 && error_free p) (receive_bit_on p.rx p) p (view p) (go p.rx t) refl
   where
-    go : (x : Receiver) → Plain x → view (receive_bit_on x p) ≡ view p
-    go Idle g = by_cond (λ (q : Port). view q ≡ view p) (format_of p).synchronous (take_bit p (clocked_word (format_of p))) p (λ e. absurd (true≢false (sym e ∙ c))) (λ e. refl)
-    go (Busy r) g = by_cond (λ (q : Port). view q ≡ view p) r.format.synchronous (take_bit p r) p (λ e. absurd (true≢false (sym e ∙ g))) (λ e. refl)
+    go : (x : Option Rx) → Plain x → view (receive_bit_on x p) ≡ view p
+    go None g = by_cond (λ (q : Port). view q ≡ view p) (format_of p).synchronous (take_bit p (clocked_word (format_of p))) p (λ e. absurd (true≢false (sym e ∙ c))) (λ e. refl)
+    go (Some r) g = by_cond (λ (q : Port). view q ≡ view p) r.format.synchronous (take_bit p r) p (λ e. absurd (true≢false (sym e ∙ g))) (λ e. refl)
 
 sync_edge_plain : (b : Bool) (p : Port) → (format_of p).synchronous ≡ false → Plain p.rx → view (sync_edge b p) ≡ view p
 unfolding sync_edge
@@ -215,8 +213,8 @@ sync_edge_plain false p c t = view_shift_out p
 pub clocked_step_plain : (p : Port) → (format_of p).synchronous ≡ false → Plain p.rx → view (clocked_edge p) ≡ view p
 unfolding clocked_edge
 clocked_step_plain p c t =
-    same_either (due_now p.sync_next p.half) (sync_edge (not p.sck) (with_clock p Never (not p.sck))) p (view p)
-    (sync_edge_plain (not p.sck) (with_clock p Never (not p.sck)) c t) refl
+    same_either (due_now p.sync_next p.half) (sync_edge (not p.sck) (with_clock p None (not p.sck))) p (view p)
+    (sync_edge_plain (not p.sck) (with_clock p None (not p.sck)) c t) refl
 
 pub view_half : (p : Port) → Fits p.half p.rx → (format_of p).synchronous ≡ false → Plain p.rx → view (half_step p) ≡ v_half (view p)
 unfolding half_step advance v_half

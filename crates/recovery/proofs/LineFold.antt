@@ -1,6 +1,7 @@
 -- The port's own record of the line, its field `input`, is the line that the callers set: the fold of specs/Recovery.antt. And its record of power is what
 -- they commanded (specs/Outside.antt).
 -- Assumes nothing.
+use Rattle.std.specs.Prelude.{None, is_some}
 use mathlib.Core.Path.{◌≡◌, refl, sym, ap, ◌∙◌}
 use Prim.Native.Nat.{ℕ, zero, suc, ◌+◌}
 use mathlib.Core.Bool.{Bool, true, false, cond, not, ◌&&◌, ◌||◌}
@@ -8,7 +9,6 @@ use mathlib.Core.List.{List, [], ◌∷◌}
 use lib.Dec.{eqb, leb}
 use lib.Bits.{bit_and, bit_or}
 use Rattle.port.specs.declared.Port.{Port}
-use Rattle.shift.specs.declared.Receiver.TheVariants.{Idle}
 use Rattle.frame.specs.Frame.{differ, has}
 use Rattle.port.specs.Baud.{edge_counted, edge_counts, external, format_of, internal}
 use Rattle.port.specs.Calls.{Answer, after, bit, called, direct, done, refuse, refused}
@@ -21,7 +21,6 @@ use Rattle.port.specs.Input.{external_edge, input_pins, receive_input}
 use Rattle.port.specs.Power.{fresh, reset, reset_registers, set_power, with_power}
 use Rattle.port.specs.Receiver.{arm_receive}
 use Rattle.port.specs.Registers.{cleared, connect, handles, load_tail, read, scr_tx, sender_off, sender_on, after_store, status_with, status_write, stored, write, write_scr, write_tdr}
-use Rattle.shift.specs.Sender.{holds}
 use Rattle.port.specs.Sender.{try_start}
 use Rattle.port.specs.Valid.{limit, valid}
 use Rattle.branches.proofs.Branches.{both_arms, by_cond, or_left}
@@ -85,7 +84,7 @@ module _ (l : Outer) where
   level_scr : (v : ℕ) (p : Port) → Level l p → Level l (write_scr v p)
   unfolding write_scr
   level_scr v p e =
-      by_cond (Level l) (has v 0x10) (scr_tx (has p.scr 0x20) v s) (with_rx (scr_tx (has p.scr 0x20) v s) Idle) (λ g. sender) (λ g. sender)
+      by_cond (Level l) (has v 0x10) (scr_tx (has p.scr 0x20) v s) (with_rx (scr_tx (has p.scr 0x20) v s) None) (λ g. sender) (λ g. sender)
     where
       s : Port
       s = with_scr p (bit_and v 0xf7)
@@ -103,7 +102,7 @@ module _ (l : Outer) where
   unfolding status_write status_with
   level_ssr v p e =
       by_cond (Level l) (has p.scr 0x20) _ _
-      (λ g. by_cond (Level l) (not (has (cleared v p) 0x80) && not (holds p.holding)) _ _ (λ h. e) (λ h. e)) (λ g. e)
+      (λ g. by_cond (Level l) (not (has (cleared v p) 0x80) && not (is_some p.holding)) _ _ (λ h. e) (λ h. e)) (λ g. e)
 
   level_stored : (a v : ℕ) (p : Port) → Level l p → Level l (stored a v p)
   level_stored a v p e = by_stored (Level l) a v p e (λ g. e) e (level_scr v p e) (level_tdr v p e) (level_ssr v p e) e e e

@@ -1,13 +1,12 @@
 -- The receiver's view of the port, and what each function of the port does to it.
 -- Assumes nothing.
+use Rattle.std.specs.Prelude.{Option, None, Some}
 use mathlib.Core.Path.{◌≡◌, refl, ap, ap₂, ◌∙◌, sym}
 use Prim.Native.Nat.{ℕ, suc, ◌%◌, ◌^◌}
 use mathlib.Core.Bool.{Bool, true, false, not, ◌&&◌, cond}
 use lib.Dec.{eqb}
 use lib.Bits.{bit_and, bit_or, or_zero_r}
 use Rattle.port.specs.declared.Port.{Port}
-use Rattle.shift.specs.declared.Receiver.{Receiver}
-use Rattle.shift.specs.declared.Receiver.TheVariants.{Busy, Idle}
 use Rattle.shift.specs.declared.Rx.{Rx}
 use Rattle.shift.specs.declared.Sampled.{Sampled}
 use Rattle.shift.specs.declared.Sampled.TheVariants.{Dropped, Onward, Whole}
@@ -64,11 +63,11 @@ pub view_arm : (p : Port) → view (arm_receive p) ≡ v_arm (view p)
 unfolding arm_receive v_arm
 view_arm p = go p.rx
   where
-    go : (x : Receiver) → view (arm_receive_on x p) ≡ v_arm_on x (view p)
-    go Idle =
+    go : (x : Option Rx) → view (arm_receive_on x p) ≡ v_arm_on x (view p)
+    go None =
         rw (← has_mask p.ssr 0x78 0x38 refl)
-        (view_either (has p.scr 0x10 && (error_free p && (not (format_of p).synchronous && not (input_level p)))) (with_rx p (Busy (armed (format_of p) (next_fall p)))) p)
-    go (Busy r) = refl
+        (view_either (has p.scr 0x10 && (error_free p && (not (format_of p).synchronous && not (input_level p)))) (with_rx p (Some (armed (format_of p) (next_fall p)))) p)
+    go (Some r) = refl
 
 pub view_complete : (p : Port) (r : Rx) → view (complete_receive p r) ≡ v_complete (view p) r
 unfolding complete_receive
@@ -96,15 +95,15 @@ view_complete p r =
 pub view_outcome : (o : Sampled) (p : Port) → view (after_sample o p) ≡ v_outcome o (view p)
 view_outcome Dropped p = refl
 view_outcome (Onward r) p = refl
-view_outcome (Whole r) p = view_complete (with_rx p Idle) r
+view_outcome (Whole r) p = view_complete (with_rx p None) r
 
 pub view_advance : (p : Port) → view (advance_rx p) ≡ v_advance (view p)
 unfolding advance_rx v_advance
 view_advance p = go p.rx
   where
-    go : (x : Receiver) → view (advance_rx_on x p) ≡ v_advance_on x (view p)
-    go Idle = refl
-    go (Busy r) =
+    go : (x : Option Rx) → view (advance_rx_on x p) ≡ v_advance_on x (view p)
+    go None = refl
+    go (Some r) =
         view_either (due_now r.next p.half) (after_sample (sample (format_of p) (input_level p) p.half r) p) p
         ∙ ap (λ (w : View). cond (due_now r.next p.half) w (view p)) (view_outcome (sample (format_of p) (input_level p) p.half r) p)
 

@@ -1,5 +1,6 @@
--- The bound holds of every state that a fresh port comes to.
+-- The bound is_some of every state that a fresh port comes to.
 -- Assumes nothing.
+use Rattle.std.specs.Prelude.{is_some}
 use mathlib.Core.Path.{◌≡◌, refl, sym, ap, ◌∙◌, subst}
 use Prim.Native.Nat.{ℕ, zero, suc, ◌+◌}
 use mathlib.Core.Bool.{Bool, not, ◌&&◌, ◌||◌}
@@ -17,7 +18,6 @@ use Rattle.port.specs.Input.{external_edge, input_pins, receive_input}
 use Rattle.port.specs.Power.{fresh, reset, reset_registers, set_power, with_power}
 use Rattle.port.specs.Receiver.{arm_receive}
 use Rattle.port.specs.Registers.{cleared, connect, handles, load_tail, read, after_store, status_with, status_write, stored, write, write_scr, write_tdr}
-use Rattle.shift.specs.Sender.{holds}
 use Rattle.port.specs.Sender.{try_start}
 use Rattle.port.specs.Valid.{limit}
 use Rattle.branches.proofs.Branches.{both_arms, by_cond}
@@ -71,7 +71,7 @@ near_ssr : (v : ℕ) (p : Port) → Near p → Near (status_write v p)
 unfolding status_write status_with
 near_ssr v p t =
     by_cond Near (has p.scr 0x20) _ _
-    (λ e. by_cond Near (not (has (cleared v p) 0x80) && not (holds p.holding)) _ _ (λ g. t) (λ g. t)) (λ e. t)
+    (λ e. by_cond Near (not (has (cleared v p) 0x80) && not (is_some p.holding)) _ _ (λ g. t) (λ g. t)) (λ e. t)
 
 near_stored : (a v : ℕ) (p : Port) → Near p → Near (stored a v p)
 unfolding stored

@@ -1,5 +1,6 @@
 -- The rest of the claim, for the receiver alone: after 384 halves at mark no start-stop word is in the receiver.
 -- Assumes nothing.
+use Rattle.std.specs.Prelude.{Option, None, Some}
 use mathlib.Core.Path.{◌≡◌, refl, sym, ap, ◌∙◌, subst}
 use Prim.Native.Nat.{ℕ, zero, suc, ◌+◌, ◌-◌, ◌*◌, ◌^◌, ◌≤◌, ◌<◌}
 use native.Mathlib.Omega.{arith}
@@ -11,10 +12,6 @@ use lib.Bits.{bit_or}
 use lib.IntN.{ℤ, pos, negsuc}
 use borrow.Author.Tests.{ltb-true, eqb-true, eq-eqb, ne_eqb, not-true}
 use Rattle.frame.specs.declared.Format.{Format}
-use Rattle.shift.specs.declared.Due.{Due}
-use Rattle.shift.specs.declared.Due.TheVariants.{At, Never}
-use Rattle.shift.specs.declared.Receiver.{Receiver}
-use Rattle.shift.specs.declared.Receiver.TheVariants.{Busy, Idle}
 use Rattle.shift.specs.declared.Rx.{Rx}
 use Rattle.shift.specs.declared.Sampled.{Sampled}
 use Rattle.shift.specs.declared.Sampled.TheVariants.{Dropped, Onward, Whole}
@@ -32,18 +29,18 @@ abbrev soon : ℤ → Format → ℕ → ℕ → ℕ → Type 0
 soon (negsuc k) f h t left = t ≤ h + left
 soon (pos j) f h t left = (i : ℕ) × (j + i ≡ f.«data» + one_if f.parity) × (t + i * f.half_bit ≤ h + left)
 
-pub data Calm (h left : ℕ) : Receiver → Type 0 where
-  none : Calm h left Idle
-  clocked : (r : Rx) → r.format.synchronous ≡ true → r.next ≡ Never → Calm h left (Busy r)
-  ending : (r : Rx) (t : ℕ) → r.format.synchronous ≡ false → r.next ≡ At t → h < t → Sound r.format → near r.position r.format h t
-      → soon r.position r.format h t left → Calm h left (Busy r)
+pub data Calm (h left : ℕ) : Option Rx → Type 0 where
+  none : Calm h left None
+  clocked : (r : Rx) → r.format.synchronous ≡ true → r.next ≡ None → Calm h left (Some r)
+  ending : (r : Rx) (t : ℕ) → r.format.synchronous ≡ false → r.next ≡ Some t → h < t → Sound r.format → near r.position r.format h t
+      → soon r.position r.format h t left → Calm h left (Some r)
 
-pub calm_fits : {h left : ℕ} {x : Receiver} → Calm h left x → Fits h x
+pub calm_fits : {h left : ℕ} {x : Option Rx} → Calm h left x → Fits h x
 calm_fits none = no_word
 calm_fits (clocked r c n) = by_clock r c n
 calm_fits (ending r t c n lt sr nr s) = by_half r t c n lt sr nr
 
-pub fits_calm : {h : ℕ} {x : Receiver} → Fits h x → Calm h 384 x
+pub fits_calm : {h : ℕ} {x : Option Rx} → Fits h x → Calm h 384 x
 fits_calm no_word = none
 fits_calm (by_clock r c n) = clocked r c n
 fits_calm {h} (by_half r t c n lt sr nr) = ending r t c n lt sr nr (go r.position r.format sr nr)
@@ -57,7 +54,7 @@ fits_calm {h} (by_half r t c n lt sr nr) = ending r t c n lt sr nr (go r.positio
         let b : i * f.half_bit ≤ 9 * f.half_bit = mul-le-mul_right f.half_bit (omega (arith, s.narrow)) in
         (i, omega (arith, a.1), omega (arith, a.0, s.short))
 
-pub calm_over : {h : ℕ} {x : Receiver} → Calm h 0 x → rx_clocked x ≡ false → x ≡ Idle
+pub calm_over : {h : ℕ} {x : Option Rx} → Calm h 0 x → rx_clocked x ≡ false → x ≡ None
 calm_over none e = refl
 calm_over (clocked r c n) e = absurd (true≢false (sym c ∙ e))
 calm_over {h} (ending r t c n lt sr nr s) e = absurd (go r.position s)
@@ -73,7 +70,7 @@ sooner (pos j) f h u left lt a = (a.0, a.1, omega (arith, a.2))
 -- ---- a sample at mark
 abbrev OutcomeCalm : ℕ → ℕ → Sampled → Type 0
 OutcomeCalm h left Dropped = Unit {0}
-OutcomeCalm h left (Onward r) = Calm h left (Busy r)
+OutcomeCalm h left (Onward r) = Calm h left (Some r)
 OutcomeCalm h left (Whole r) = Unit {0}
 
 sample_calm : (now : Format) (h left : ℕ) (r : Rx) → Sound r.format → r.format.synchronous ≡ false
@@ -98,7 +95,7 @@ sample_calm now h left r sr c (pos j) n s =
     check = cond (eqb j r.format.«data» && r.format.parity) (Onward checked) (Whole (stopped true r))
 
     next : (val : ℕ) (par : Bool) (er : ℕ) (i : ℕ) → j + i ≡ r.format.«data» + one_if r.format.parity → suc h + i * r.format.half_bit ≤ h + left
-        → suc j ≤ r.format.«data» + one_if r.format.parity → Calm (suc h) (left - 1) (Busy (stepped (suc h) (pos j) val par er r))
+        → suc j ≤ r.format.«data» + one_if r.format.parity → Calm (suc h) (left - 1) (Some (stepped (suc h) (pos j) val par er r))
     next val par er zero a b l = absurd (over a l)
       where
         over : j + 0 ≡ r.format.«data» + one_if r.format.parity → suc j ≤ r.format.«data» + one_if r.format.parity → ⊥
@@ -109,17 +106,17 @@ sample_calm now h left r sr c (pos j) n s =
 outcome_calm : (o : Sampled) (v : View) (h left : ℕ) → OutcomeCalm h left o → Calm h left (v_outcome o v).rx
 outcome_calm Dropped v h left t = none
 outcome_calm (Onward r) v h left t = t
-outcome_calm (Whole r) v h left t = subst (Calm h left) (sym (v_complete_rx (v_rx v Idle) r)) none
+outcome_calm (Whole r) v h left t = subst (Calm h left) (sym (v_complete_rx (v_rx v None) r)) none
 
 advance_calm : (v : View) (h left : ℕ) → v.half ≡ suc h → v.mark ≡ true → Calm h left v.rx → Calm (suc h) (left - 1) (v_advance v).rx
 unfolding v_advance
 advance_calm v h left e mk t = go v.rx refl t
   where
-    go : (x : Receiver) → v.rx ≡ x → Calm h left x → Calm (suc h) (left - 1) (v_advance_on x v).rx
+    go : (x : Option Rx) → v.rx ≡ x → Calm h left x → Calm (suc h) (left - 1) (v_advance_on x v).rx
     go x q none = subst (Calm (suc h) (left - 1)) (sym q) none
     go x q (clocked r c n) = rw (n, q) (clocked r c n)
     go x q (ending r u c n lt sr nr s) =
-        subst (λ (y : Due). Calm (suc h) (left - 1) (cond (due_now y v.half) (v_outcome (sample v.fmt v.mark v.half r) v) v).rx) (sym n) (due (ℕ_discrete u v.half))
+        subst (λ (y : Option ℕ). Calm (suc h) (left - 1) (cond (due_now y v.half) (v_outcome (sample v.fmt v.mark v.half r) v) v).rx) (sym n) (due (ℕ_discrete u v.half))
       where
         due : Dec (u ≡ v.half) → Calm (suc h) (left - 1) (cond (eqb u v.half) (v_outcome (sample v.fmt v.mark v.half r) v) v).rx
         due (yes d) =
@@ -134,12 +131,12 @@ pub arm_at_mark : (v : View) → v.mark ≡ true → v_arm v ≡ v
 unfolding v_arm
 arm_at_mark v mk = go v.rx
   where
-    go : (x : Receiver) → v_arm_on x v ≡ v
-    go Idle =
-        by_cond (λ (w : View). w ≡ v) (v_can_arm v) (v_rx v (Busy (armed v.fmt (fall v.half v.high)))) v
+    go : (x : Option Rx) → v_arm_on x v ≡ v
+    go None =
+        by_cond (λ (w : View). w ≡ v) (v_can_arm v) (v_rx v (Some (armed v.fmt (fall v.half v.high)))) v
         (λ e. absurd (true≢false (sym mk ∙ not-true v.mark (and_right (not v.fmt.synchronous) (not v.mark) (and_right (not (has v.flags 0x38)) (not v.fmt.synchronous && not v.mark) (and_right v.on (not (has v.flags 0x38) && (not v.fmt.synchronous && not v.mark)) e))))))
         (λ e. refl)
-    go (Busy r) = refl
+    go (Some r) = refl
 
 pub basic_calm : (v : View) (h left : ℕ) → v.half ≡ suc h → v.mark ≡ true → Calm h left v.rx → Calm (suc h) (left - 1) (v_basic v).rx
 unfolding v_basic

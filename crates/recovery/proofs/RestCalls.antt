@@ -1,5 +1,6 @@
 -- The rest, call by call: after 384 halves at mark the receiver is empty; and from there the words.
 -- Assumes nothing.
+use Rattle.std.specs.Prelude.{Option, None, Some, is_some}
 use mathlib.Core.Path.{◌≡◌, refl, sym, ap, ◌∙◌, subst}
 use Prim.Native.Nat.{ℕ, zero, suc, ◌+◌, ◌-◌, ◌≤◌}
 use native.Mathlib.Omega.{arith}
@@ -12,10 +13,7 @@ use borrow.Author.Tests.{eqb-true}
 use Rattle.port.specs.Calls.{run as port_run, Answer, after, bit, called, direct, done, refuse}
 use Rattle.command.specs.declared.Command.{Command}
 use Rattle.command.specs.declared.Command.TheVariants.{Wait, Inside, Read, Line, Pins, Power, Write}
-use Rattle.shift.specs.declared.Due.TheVariants.{Never}
 use Rattle.port.specs.declared.Port.{Port}
-use Rattle.shift.specs.declared.Receiver.{Receiver}
-use Rattle.shift.specs.declared.Receiver.TheVariants.{Busy, Idle}
 use Rattle.shift.specs.declared.Rx.{Rx}
 use Rattle.frame.proofs.Truth.{and_right}
 use Rattle.frame.proofs.Laws.{clear_of}
@@ -30,7 +28,6 @@ use Rattle.port.specs.Power.{set_power}
 use Rattle.shift.specs.Due.{due_now}
 use Rattle.port.specs.Receiver.{arm_receive, complete_receive, error_free, input_level}
 use Rattle.port.specs.Registers.{cleared, connect, handles, load_tail, peek, read, after_store, status_with, status_write, stored, write}
-use Rattle.shift.specs.Sender.{holds}
 use Rattle.port.specs.Sender.{try_start}
 use Rattle.port.specs.Valid.{limit, valid}
 use Rattle.branches.proofs.Branches.{by_cond}
@@ -48,18 +45,18 @@ use Rattle.recovery.proofs.WordCalls.{Reading, no_edge, to_holds, words_along}
 use Rattle.recovery.proofs.Words.{Where, start_where}
 
 -- ---- the clocked edge, with no start-stop word in the receiver
-data Quiet : Receiver → Type 0 where
-  empty : Quiet Idle
-  by_edge : (r : Rx) → r.format.synchronous ≡ true → r.next ≡ Never → Quiet (Busy r)
+data Quiet : Option Rx → Type 0 where
+  empty : Quiet None
+  by_edge : (r : Rx) → r.format.synchronous ≡ true → r.next ≡ None → Quiet (Some r)
 
-quiet_calm : {x : Receiver} (h left : ℕ) → Quiet x → Calm h left x
+quiet_calm : {x : Option Rx} (h left : ℕ) → Quiet x → Calm h left x
 quiet_calm h left empty = none
 quiet_calm h left (by_edge r c n) = clocked r c n
 
-take_bit_quiet : (p : Port) (r : Rx) → r.format.synchronous ≡ true → r.next ≡ Never → Quiet (take_bit p r).rx
+take_bit_quiet : (p : Port) (r : Rx) → r.format.synchronous ≡ true → r.next ≡ None → Quiet (take_bit p r).rx
 unfolding take_bit
 take_bit_quiet p r c n =
-    by_cond (λ (q : Port). Quiet q.rx) (last_bit r.position) (complete_receive (with_rx p Idle) (bit_taken (input_level p) r)) (with_rx p (Busy (bit_taken (input_level p) r)))
+    by_cond (λ (q : Port). Quiet q.rx) (last_bit r.position) (complete_receive (with_rx p None) (bit_taken (input_level p) r)) (with_rx p (Some (bit_taken (input_level p) r)))
     (λ e. subst Quiet (sym (complete_rx p (bit_taken (input_level p) r))) empty) (λ e. by_edge (bit_taken (input_level p) r) c n)
 
 receive_bit_quiet : (p : Port) → (format_of p).synchronous ≡ false → Quiet p.rx → Quiet (receive_bit p).rx
@@ -67,7 +64,7 @@ unfolding receive_bit
 receive_bit_quiet p f t =
     by_cond (λ (q : Port). Quiet q.rx) (has p.scr 0x10 && error_free p) (receive_bit_on p.rx p) p (λ e. go p.rx refl t) (λ e. t)
   where
-    go : (x : Receiver) → p.rx ≡ x → Quiet x → Quiet (receive_bit_on x p).rx
+    go : (x : Option Rx) → p.rx ≡ x → Quiet x → Quiet (receive_bit_on x p).rx
     go x q empty = by_cond (λ (w : Port). Quiet w.rx) (format_of p).synchronous (take_bit p (clocked_word (format_of p))) p (λ e. absurd (true≢false (sym e ∙ f))) (λ e. t)
     go x q (by_edge r c n) = by_cond (λ (w : Port). Quiet w.rx) r.format.synchronous (take_bit p r) p (λ e. take_bit_quiet p r c n) (λ e. t)
 
@@ -79,8 +76,8 @@ sync_edge_quiet false p f t = subst Quiet (sym (ap (λ (v : View). v.rx) (view_s
 clocked_step_quiet : (p : Port) → (format_of p).synchronous ≡ false → Quiet p.rx → Quiet (clocked_edge p).rx
 unfolding clocked_edge
 clocked_step_quiet p f t =
-    by_cond (λ (q : Port). Quiet q.rx) (due_now p.sync_next p.half) (sync_edge (not p.sck) (with_clock p Never (not p.sck))) p
-    (λ e. sync_edge_quiet (not p.sck) (with_clock p Never (not p.sck)) f t) (λ e. t)
+    by_cond (λ (q : Port). Quiet q.rx) (due_now p.sync_next p.half) (sync_edge (not p.sck) (with_clock p None (not p.sck))) p
+    (λ e. sync_edge_quiet (not p.sck) (with_clock p None (not p.sck)) f t) (λ e. t)
 
 -- ---- the rest
 record Resting (left : ℕ) (p : Port) : Type 0 where
@@ -91,7 +88,7 @@ record Resting (left : ℕ) (p : Port) : Type 0 where
   calm : Calm p.half left p.rx
 
 -- a clocked word waits through the basic work
-clocked_half : (p : Port) (r : Rx) → (format_of p).synchronous ≡ false → input_level p ≡ true → p.rx ≡ Busy r → r.format.synchronous ≡ true → r.next ≡ Never → Quiet (half_step p).rx
+clocked_half : (p : Port) (r : Rx) → (format_of p).synchronous ≡ false → input_level p ≡ true → p.rx ≡ Some r → r.format.synchronous ≡ true → r.next ≡ None → Quiet (half_step p).rx
 unfolding half_step advance v_basic
 clocked_half p r f mk e c n =
     let w : View = v_count (view p) in
@@ -110,7 +107,7 @@ half_calm p left f mk t = go p.rx refl t
     plain_case g =
         subst (λ (v : View). Calm (suc p.half) (left - 1) v.rx) (sym (view_half p (calm_fits t) f g)) (basic_calm (v_count (view p)) p.half left refl mk t)
 
-    go : (x : Receiver) → p.rx ≡ x → Calm p.half left x → Calm (suc p.half) (left - 1) (half_step p).rx
+    go : (x : Option Rx) → p.rx ≡ x → Calm p.half left x → Calm (suc p.half) (left - 1) (half_step p).rx
     go x e none = plain_case (ap rx_clocked e)
     go x e (clocked r c n) = quiet_calm (suc p.half) (left - 1) (clocked_half p r f mk e c n)
     go x e (ending r u c n lt sr nr s) = plain_case (ap rx_clocked e ∙ c)
@@ -186,7 +183,7 @@ resting_ssr : (v left : ℕ) (p : Port) → Resting left p → Resting left (sta
 unfolding status_write status_with
 resting_ssr v left p r =
     by_cond (Resting left) (has p.scr 0x20) _ _
-    (λ e. by_cond (Resting left) (not (has (cleared v p) 0x80) && not (holds p.holding)) _ _ (λ g. resting_same left p _ refl refl r) (λ g. resting_same left p _ refl refl r))
+    (λ e. by_cond (Resting left) (not (has (cleared v p) 0x80) && not (is_some p.holding)) _ _ (λ g. resting_same left p _ refl refl r) (λ g. resting_same left p _ refl refl r))
     (λ e. resting_same left p _ refl refl r)
 
 resting_tail : (was : Bool) (left : ℕ) (s : Port) → Resting left s → Resting left (refresh_sync_clock (arm_receive (try_start (load_tail (connect was s)))))
@@ -308,7 +305,7 @@ rest_run (c ∷ cs) left p r q =
     rw e (rest_run cs (left - length (levels xs)) (after (direct c p)) (after_direct left p r c q.0) q.1)
 
 -- the view of a port that has rested
-rested : (p : Port) → Resting 0 p → bit_and p.ssr 0x78 ≡ 0 → rx_clocked p.rx ≡ false → view p ≡ state (format_of p) Idle p.half p.high true 0 p.rdr p.received
+rested : (p : Port) → Resting 0 p → bit_and p.ssr 0x78 ≡ 0 → rx_clocked p.rx ≡ false → view p ≡ state (format_of p) None p.half p.high true 0 p.rdr p.received
 rested p r e g = λ i.
     record {
       fmt = format_of p;

@@ -1,5 +1,6 @@
 -- One half, by what the receiver is waiting for.
 -- Assumes nothing.
+use Rattle.std.specs.Prelude.{None, Some, Option}
 use mathlib.Core.Path.{◌≡◌, refl, sym, ap, ◌∙◌, subst}
 use mathlib.Core.Logic.{◌≢◌}
 use Prim.Native.Nat.{ℕ, suc, ◌+◌, ◌-◌, ◌*◌, ◌/◌, ◌%◌, ◌^◌, ◌<◌}
@@ -14,8 +15,6 @@ use lib.Seq.{take-suc, length-take-le, take_all}
 use lib.IntN.{ℤ, pos, negsuc}
 use borrow.Author.Tests.{lt-ltb, le-ltb, eq-eqb, ne_eqb}
 use Rattle.frame.specs.declared.Format.{Format}
-use Rattle.shift.specs.declared.Due.TheVariants.{At}
-use Rattle.shift.specs.declared.Receiver.TheVariants.{Busy, Idle}
 use Rattle.shift.specs.declared.Rx.{Rx}
 use Rattle.frame.proofs.Words.{number_lt}
 use Rattle.frame.specs.Frame.{differ, has, number, odd_ones, one_if}
@@ -25,11 +24,11 @@ use Rattle.recovery.proofs.View.{fall, state, v_advance, v_arm, v_basic, v_count
 -- the word in the receiver after the start cell and j cells more, with these data bits
 abbrev pub rx_at : Format → List Bool → ℕ → ℕ → Rx
 rx_at f bs j t =
-    record { format = f; value = number (take j bs); position = pos j; parity = odd_ones (take j bs); error = 0; next = At t }
+    record { format = f; value = number (take j bs); position = pos j; parity = odd_ones (take j bs); error = 0; next = Some t }
 
 -- the word that waits at minus one or minus two
 abbrev pub rx_wait : Format → ℤ → ℕ → Rx
-rx_wait f z t = record { format = f; value = 0; position = z; parity = false; error = 0; next = At t }
+rx_wait f z t = record { format = f; value = 0; position = z; parity = false; error = 0; next = Some t }
 
 pub and_false : (a : Bool) → a && false ≡ false
 and_false true = refl
@@ -81,56 +80,56 @@ past_parity : (w : ℕ) (p : Bool) → (eqb (w + one_if p) w && p) ≡ false
 past_parity w true = rw (ne_eqb (w + 1) w (omega arith))
 past_parity w false = and_false (eqb (w + 0) w)
 
-pub arm_mark : (f : Format) (h : ℕ) (hi : Bool) (s d n : ℕ) → v_arm (state f Idle h hi true s d n) ≡ state f Idle h hi true s d n
+pub arm_mark : (f : Format) (h : ℕ) (hi : Bool) (s d n : ℕ) → v_arm (state f None h hi true s d n) ≡ state f None h hi true s d n
 unfolding v_arm
 arm_mark f h hi s d n = simp and_false
 
 -- the line leaves mark
 pub line_arms : (f : Format) (h : ℕ) (hi : Bool) (s d n : ℕ) → f.synchronous ≡ false → has s 0x38 ≡ false
-    → v_arm (state f Idle h hi false s d n) ≡ state f (Busy (rx_wait f (negsuc 1) (fall h hi))) h hi false s d n
+    → v_arm (state f None h hi false s d n) ≡ state f (Some (rx_wait f (negsuc 1) (fall h hi))) h hi false s d n
 unfolding v_arm
 line_arms f h hi s d n c e = rw (e, c)
 
 module _ (f : Format) (h : ℕ) (hi : Bool) (s d n : ℕ) where
   -- not due: the half is counted, and nothing else
   pub quiet : (m : Bool) (fr : Format) (val : ℕ) (z : ℤ) (par : Bool) (er t : ℕ) → t ≢ suc h
-      → let x = Busy (record { format = fr; value = val; position = z; parity = par; error = er; next = At t }) in
+      → let x : Option Rx = Some (record { format = fr; value = val; position = z; parity = par; error = er; next = Some t }) in
       v_half (state f x h hi m s d n) ≡ state f x (suc h) (not hi) m s d n
   unfolding v_half v_basic v_advance v_arm
   quiet m fr val z par er t ne = rw (ne_eqb t (suc h) ne)
 
   -- mark, and no word in the receiver
-  pub idle : v_half (state f Idle h hi true s d n) ≡ state f Idle (suc h) (not hi) true s d n
+  pub idle : v_half (state f None h hi true s d n) ≡ state f None (suc h) (not hi) true s d n
   unfolding v_half v_basic v_advance v_arm
   idle = simp (and_false)
 
   -- at minus two: at mark the word is dropped, else it goes on
-  pub false_start : v_half (state f (Busy (rx_wait f (negsuc 1) (suc h))) h hi true s d n) ≡ state f Idle (suc h) (not hi) true s d n
+  pub false_start : v_half (state f (Some (rx_wait f (negsuc 1) (suc h))) h hi true s d n) ≡ state f None (suc h) (not hi) true s d n
   unfolding v_half v_basic v_advance v_arm sample_at
   false_start = rw (eq-eqb (suc h) (suc h) refl) (simp and_false)
 
   pub falls : f.synchronous ≡ false
-      → v_half (state f (Busy (rx_wait f (negsuc 1) (suc h))) h hi false s d n)
-      ≡ state f (Busy (rx_wait f (negsuc 0) (suc h + f.half_bit / 2 - 1))) (suc h) (not hi) false s d n
+      → v_half (state f (Some (rx_wait f (negsuc 1) (suc h))) h hi false s d n)
+      ≡ state f (Some (rx_wait f (negsuc 0) (suc h + f.half_bit / 2 - 1))) (suc h) (not hi) false s d n
   unfolding v_half v_basic v_advance v_arm sample_at
   falls c = rw (eq-eqb (suc h) (suc h) refl, c)
 
   pub starts : (bs : List Bool) →
-      v_half (state f (Busy (rx_wait f (negsuc 0) (suc h))) h hi false s d n)
-      ≡ state f (Busy (rx_at f bs 0 (suc h + f.half_bit))) (suc h) (not hi) false s d n
+      v_half (state f (Some (rx_wait f (negsuc 0) (suc h))) h hi false s d n)
+      ≡ state f (Some (rx_at f bs 0 (suc h + f.half_bit))) (suc h) (not hi) false s d n
   unfolding v_half v_basic v_advance v_arm sample_at number odd_ones
   starts bs = rw (eq-eqb (suc h) (suc h) refl)
 
   pub takes : (bs : List Bool) (j : ℕ) → j < length bs → length bs ≡ f.«data»
-      → v_half (state f (Busy (rx_at f bs j (suc h))) h hi (get_or bs j false) s d n)
-      ≡ state f (Busy (rx_at f bs (suc j) (suc h + f.half_bit))) (suc h) (not hi) (get_or bs j false) s d n
+      → v_half (state f (Some (rx_at f bs j (suc h))) h hi (get_or bs j false) s d n)
+      ≡ state f (Some (rx_at f bs (suc j) (suc h + f.half_bit))) (suc h) (not hi) (get_or bs j false) s d n
   unfolding v_half v_basic v_advance v_arm sample_at
   takes bs j lt e =
       rw (eq-eqb (suc h) (suc h) refl, lt-ltb j f.«data» (subst (λ (k : ℕ). j < k) e lt), next_value bs j lt, next_parity bs j lt)
 
   pub checks : (bs : List Bool) → length bs ≡ f.«data» → f.parity ≡ true
-      → v_half (state f (Busy (rx_at f bs f.«data» (suc h))) h hi (differ (odd_ones bs) f.odd) s d n)
-      ≡ state f (Busy (rx_at f bs (suc f.«data») (suc h + f.half_bit))) (suc h) (not hi) (differ (odd_ones bs) f.odd) s d n
+      → v_half (state f (Some (rx_at f bs f.«data» (suc h))) h hi (differ (odd_ones bs) f.odd) s d n)
+      ≡ state f (Some (rx_at f bs (suc f.«data») (suc h + f.half_bit))) (suc h) (not hi) (differ (odd_ones bs) f.odd) s d n
   unfolding v_half v_basic v_advance v_arm sample_at
   checks bs e p =
       rw (eq-eqb (suc h) (suc h) refl, le-ltb f.«data» f.«data» (le_refl f.«data»), eq-eqb f.«data» f.«data» refl, p, take_all f.«data» bs (le_of_eq e), take_all (suc f.«data») bs (omega (arith, e)))
@@ -141,15 +140,15 @@ module _ (f : Format) (h : ℕ) (hi : Bool) (s d n : ℕ) where
       same false = refl
 
   stop_advance : (bs : List Bool) → length bs ≡ f.«data»
-      → v_advance (v_count (state f (Busy (rx_at f bs (f.«data» + one_if f.parity) (suc h))) h hi true 0 d n))
-      ≡ state f Idle (suc h) (not hi) true 0x40 (number bs) (suc n % 2 ^ 64)
+      → v_advance (v_count (state f (Some (rx_at f bs (f.«data» + one_if f.parity) (suc h))) h hi true 0 d n))
+      ≡ state f None (suc h) (not hi) true 0x40 (number bs) (suc n % 2 ^ 64)
   unfolding v_advance sample_at
   stop_advance bs e =
       rw (eq-eqb (suc h) (suc h) refl, le-ltb (f.«data» + one_if f.parity) f.«data» (omega arith), past_parity f.«data» f.parity, take_all (f.«data» + one_if f.parity) bs (omega (arith, e)))
 
   -- the first stop cell, with the flags clear: the word is whole
   pub stops_at : (bs : List Bool) → length bs ≡ f.«data»
-      → v_half (state f (Busy (rx_at f bs (f.«data» + one_if f.parity) (suc h))) h hi true 0 d n)
-      ≡ state f Idle (suc h) (not hi) true 0x40 (number bs) (suc n % 2 ^ 64)
+      → v_half (state f (Some (rx_at f bs (f.«data» + one_if f.parity) (suc h))) h hi true 0 d n)
+      ≡ state f None (suc h) (not hi) true 0x40 (number bs) (suc n % 2 ^ 64)
   unfolding v_half v_basic
   stops_at bs e = ap v_arm (stop_advance bs e) ∙ arm_mark f (suc h) (not hi) 0x40 (number bs) (suc n % 2 ^ 64)

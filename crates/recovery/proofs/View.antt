@@ -1,12 +1,11 @@
 -- What of the port the receiver depends on, and what one half does to it.
 -- Assumes nothing.
+use Rattle.std.specs.Prelude.{Option, None, Some}
 use Prim.Native.Nat.{ℕ, suc, ◌%◌, ◌^◌}
 use mathlib.Core.Bool.{Bool, true, not, ◌&&◌, cond}
 use lib.Dec.{eqb}
 use lib.Bits.{bit_and, bit_or}
 use Rattle.frame.specs.declared.Format.{Format}
-use Rattle.shift.specs.declared.Receiver.{Receiver}
-use Rattle.shift.specs.declared.Receiver.TheVariants.{Busy, Idle}
 use Rattle.shift.specs.declared.Rx.{Rx}
 use Rattle.shift.specs.declared.Sampled.{Sampled}
 use Rattle.shift.specs.declared.Sampled.TheVariants.{Dropped, Onward, Whole}
@@ -18,7 +17,7 @@ pub record View : Type 0 where
   pub fmt : Format
   pub on : Bool
   pub runs : Bool
-  pub rx : Receiver
+  pub rx : Option Rx
   pub half : ℕ
   pub high : Bool
   pub mark : Bool
@@ -26,7 +25,7 @@ pub record View : Type 0 where
   pub rdr : ℕ
   pub received : ℕ
 
-abbrev pub v_rx : View → Receiver → View
+abbrev pub v_rx : View → Option Rx → View
 v_rx v x =
     record { fmt = v.fmt; on = v.on; runs = v.runs; rx = x; half = v.half; high = v.high; mark = v.mark; flags = v.flags; rdr = v.rdr; received = v.received }
 
@@ -54,11 +53,11 @@ fall half high = cond high (suc half) (suc (suc half))
 abbrev pub v_can_arm : View → Bool
 v_can_arm v = v.on && (not (has v.flags 0x38) && (not v.fmt.synchronous && not v.mark))
 
-abbrev pub v_arm_on : Receiver → View → View
-v_arm_on Idle v =
+abbrev pub v_arm_on : Option Rx → View → View
+v_arm_on None v =
     cond (v_can_arm v)
-    (v_rx v (Busy (armed v.fmt (fall v.half v.high)))) v
-v_arm_on (Busy r) v = v
+    (v_rx v (Some (armed v.fmt (fall v.half v.high)))) v
+v_arm_on (Some r) v = v
 
 unfoldable pub v_arm : View → View
 v_arm v = v_arm_on v.rx v
@@ -71,13 +70,13 @@ v_complete v r =
     (v_word v (bit_or v.flags (bit_and r.error 0x78)) r.value v.received))
 
 abbrev pub v_outcome : Sampled → View → View
-v_outcome Dropped v = v_rx v Idle
-v_outcome (Onward r) v = v_rx v (Busy r)
-v_outcome (Whole r) v = v_complete (v_rx v Idle) r
+v_outcome Dropped v = v_rx v None
+v_outcome (Onward r) v = v_rx v (Some r)
+v_outcome (Whole r) v = v_complete (v_rx v None) r
 
-abbrev pub v_advance_on : Receiver → View → View
-v_advance_on Idle v = v
-v_advance_on (Busy r) v = cond (due_now r.next v.half) (v_outcome (sample v.fmt v.mark v.half r) v) v
+abbrev pub v_advance_on : Option Rx → View → View
+v_advance_on None v = v
+v_advance_on (Some r) v = cond (due_now r.next v.half) (v_outcome (sample v.fmt v.mark v.half r) v) v
 
 unfoldable pub v_advance : View → View
 v_advance v = v_advance_on v.rx v
@@ -93,6 +92,6 @@ unfoldable pub completing : View → Bool
 completing v = completing_on v.rx (suc v.half)
 
 -- a view of given values
-abbrev pub state : Format → Receiver → ℕ → Bool → Bool → ℕ → ℕ → ℕ → View
+abbrev pub state : Format → Option Rx → ℕ → Bool → Bool → ℕ → ℕ → ℕ → View
 state f x h hi m s d n =
     record { fmt = f; on = true; runs = true; rx = x; half = h; high = hi; mark = m; flags = s; rdr = d; received = n }

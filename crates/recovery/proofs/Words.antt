@@ -1,5 +1,6 @@
 -- The words of the claim, for the receiver alone: where the receiver stands against the line, kept by every moment.
 -- Assumes nothing.
+use Rattle.std.specs.Prelude.{Option, None, Some}
 use mathlib.Core.Path.{◌≡◌, refl, sym, ap, ◌∙◌, subst}
 use mathlib.Core.Logic.{◌≢◌}
 use Prim.Native.Nat.{ℕ, zero, suc, pred, ◌+◌, ◌-◌, ◌*◌, ◌/◌, ◌%◌, ◌^◌, ◌≤◌, ◌<◌}
@@ -15,9 +16,6 @@ use lib.Seq.{drop-cons}
 use lib.IntN.{ℤ, pos, negsuc}
 use borrow.Author.Tests.{lt-ltb, lt-leb, eq-eqb, ne_eqb}
 use Rattle.frame.specs.declared.Format.{Format}
-use Rattle.shift.specs.declared.Due.TheVariants.{At}
-use Rattle.shift.specs.declared.Receiver.{Receiver}
-use Rattle.shift.specs.declared.Receiver.TheVariants.{Busy, Idle}
 use Rattle.shift.specs.declared.Rx.{Rx}
 use Rattle.frame.proofs.Words.{bits_length, cells_length, data_cell, number_bits, parity_at, start_cell, stop_cell, word_bits}
 use Rattle.frame.specs.Frame.{bits, differ, frame, has, number, odd_ones, one_if, stop}
@@ -29,23 +27,23 @@ use Rattle.recovery.proofs.Steps.{and_false, arm_mark, checks, falls, false_star
 use Rattle.recovery.proofs.View.{View, completing, fall, state, v_arm, v_flags, v_half, v_mark}
 
 -- no word in the receiver, or one that waits for the falling phase
-pub data Free (f : Format) (h : ℕ) (hi : Bool) : Bool → Receiver → Type 0 where
-  no_word : Free f h hi true Idle
-  waits : {m : Bool} → Free f h hi m (Busy (rx_wait f (negsuc 1) (fall h hi)))
+pub data Free (f : Format) (h : ℕ) (hi : Bool) : Bool → Option Rx → Type 0 where
+  no_word : Free f h hi true None
+  waits : {m : Bool} → Free f h hi m (Some (rx_wait f (negsuc 1) (fall h hi)))
 
 -- the word with data bits bs in the receiver, k halves after its line fell
-pub data Phase (f : Format) (bs : List Bool) (h k : ℕ) : Receiver → Type 0 where
-  waiting : k ≡ 1 → Phase f bs h k (Busy (rx_wait f (negsuc 1) (suc h)))
-  starting : (t e : ℕ) → t + k ≡ h + e → h < t → f.half_bit / 2 ≤ e → e ≤ f.half_bit / 2 + 1 → Phase f bs h k (Busy (rx_wait f (negsuc 0) t))
+pub data Phase (f : Format) (bs : List Bool) (h k : ℕ) : Option Rx → Type 0 where
+  waiting : k ≡ 1 → Phase f bs h k (Some (rx_wait f (negsuc 1) (suc h)))
+  starting : (t e : ℕ) → t + k ≡ h + e → h < t → f.half_bit / 2 ≤ e → e ≤ f.half_bit / 2 + 1 → Phase f bs h k (Some (rx_wait f (negsuc 0) t))
   taking : (t e j : ℕ) → t + k ≡ h + (j * f.half_bit + f.half_bit + e) → h < t → f.half_bit / 2 ≤ e → e ≤ f.half_bit / 2 + 1
-      → j ≤ f.«data» + one_if f.parity → Phase f bs h k (Busy (rx_at f bs j t))
+      → j ≤ f.«data» + one_if f.parity → Phase f bs h k (Some (rx_at f bs j t))
 
-arm_busy : (f : Format) (r : Rx) (h : ℕ) (hi m : Bool) (s d n : ℕ) → v_arm (state f (Busy r) h hi m s d n) ≡ state f (Busy r) h hi m s d n
+arm_busy : (f : Format) (r : Rx) (h : ℕ) (hi m : Bool) (s d n : ℕ) → v_arm (state f (Some r) h hi m s d n) ≡ state f (Some r) h hi m s d n
 unfolding v_arm
 arm_busy f r h hi m s d n = refl
 
 -- a receiver in a word is busy
-arm_phase : (f : Format) (bs : List Bool) (h k : ℕ) (x : Receiver) (hi m : Bool) (s d n : ℕ) → Phase f bs h k x → v_arm (state f x h hi m s d n) ≡ state f x h hi m s d n
+arm_phase : (f : Format) (bs : List Bool) (h k : ℕ) (x : Option Rx) (hi m : Bool) (s d n : ℕ) → Phase f bs h k x → v_arm (state f x h hi m s d n) ≡ state f x h hi m s d n
 arm_phase f bs h k x hi m s d n (waiting q) = arm_busy f (rx_wait f (negsuc 1) (suc h)) h hi m s d n
 arm_phase f bs h k x hi m s d n (starting t e q lt lo up) = arm_busy f (rx_wait f (negsuc 0) t) h hi m s d n
 arm_phase f bs h k x hi m s d n (taking t e j q lt lo up le) = arm_busy f (rx_at f bs j t) h hi m s d n
@@ -82,9 +80,9 @@ module _ (f : Format) (items : List LineItem) (r0 : ℕ) where
 
   -- where the receiver stands; `ls` are the levels to come
   pub data Where (c : Count) (ls : List Bool) : View → Type 0 where
-    between : (is : List LineItem) (x : Receiver) (h : ℕ) (hi m : Bool) (s d n : ℕ) → Free f h hi m x → Book c s d n → Ledger c is 0
+    between : (is : List LineItem) (x : Option Rx) (h : ℕ) (hi m : Bool) (s d n : ℕ) → Free f h hi m x → Book c s d n → Ledger c is 0
         → prefix ls (signal f is) → Where c ls (state f x h hi m s d n)
-    inside : (v k : ℕ) (is : List LineItem) (x : Receiver) (h : ℕ) (hi m : Bool) (s d n : ℕ) → Phase f (bits f.«data» v) h k x → Book c s d n
+    inside : (v k : ℕ) (is : List LineItem) (x : Option Rx) (h : ℕ) (hi m : Bool) (s d n : ℕ) → Phase f (bits f.«data» v) h k x → Book c s d n
         → Ledger c (word_of v ∷ is) k → prefix ls (drop k (spread f.half_bit (frame f (bits f.«data» v))) ++ signal f is)
         → Where c ls (state f x h hi m s d n)
 
@@ -170,22 +168,22 @@ module _ (f : Format) (items : List LineItem) (r0 : ℕ) where
         → Where (count_after c (half_passes m b)) ls w → Where (count_after c (half_passes m (completing v))) ls (v_half v)
     show_half c ls v w m b e g p = rw (e, g) p
 
-    mark_half : (c : Count) (ls : List Bool) (is : List LineItem) (k : ℕ) (x : Receiver) (h : ℕ) (hi : Bool) (s d n : ℕ) → Free f h hi true x → Book c s d n
+    mark_half : (c : Count) (ls : List Bool) (is : List LineItem) (k : ℕ) (x : Option Rx) (h : ℕ) (hi : Bool) (s d n : ℕ) → Free f h hi true x → Book c s d n
         → Ledger c (mark (suc k) ∷ is) 0 → prefix ls (signal f (mark k ∷ is))
         → Where (count_after c (half_passes true (completing (state f x h hi true s d n)))) ls (v_half (state f x h hi true s d n))
     unfolding completing
     mark_half c ls is k x h hi s d n no_word b l a =
-        show_half c ls (state f Idle h hi true s d n) (state f Idle (suc h) (not hi) true s d n) true false refl (idle f h hi s d n)
-        (between (mark k ∷ is) Idle (suc h) (not hi) true s d n no_word (book_step c true s d n b) (ledger_mark (count_after c (half_passes true false)) is k (ledger_step c true (mark (suc k) ∷ is) 0 l)) a)
+        show_half c ls (state f None h hi true s d n) (state f None (suc h) (not hi) true s d n) true false refl (idle f h hi s d n)
+        (between (mark k ∷ is) None (suc h) (not hi) true s d n no_word (book_step c true s d n b) (ledger_mark (count_after c (half_passes true false)) is k (ledger_step c true (mark (suc k) ∷ is) 0 l)) a)
     mark_half c ls is k x h true s d n waits b l a =
-        show_half c ls (state f (Busy (rx_wait f (negsuc 1) (suc h))) h true true s d n) (state f Idle (suc h) false true s d n) true false
+        show_half c ls (state f (Some (rx_wait f (negsuc 1) (suc h))) h true true s d n) (state f None (suc h) false true s d n) true false
         (and_false (eqb (suc h) (suc h))) (false_start f h true s d n)
-        (between (mark k ∷ is) Idle (suc h) false true s d n no_word (book_step c true s d n b) (ledger_mark (count_after c (half_passes true false)) is k (ledger_step c true (mark (suc k) ∷ is) 0 l)) a)
+        (between (mark k ∷ is) None (suc h) false true s d n no_word (book_step c true s d n b) (ledger_mark (count_after c (half_passes true false)) is k (ledger_step c true (mark (suc k) ∷ is) 0 l)) a)
     mark_half c ls is k x h false s d n waits b l a =
-        show_half c ls (state f (Busy (rx_wait f (negsuc 1) (suc (suc h)))) h false true s d n)
-        (state f (Busy (rx_wait f (negsuc 1) (suc (suc h)))) (suc h) true true s d n) true false
+        show_half c ls (state f (Some (rx_wait f (negsuc 1) (suc (suc h)))) h false true s d n)
+        (state f (Some (rx_wait f (negsuc 1) (suc (suc h)))) (suc h) true true s d n) true false
         (and_false (eqb (suc (suc h)) (suc h))) (quiet f h false s d n true f 0 (negsuc 1) false 0 (suc (suc h)) (omega arith))
-        (between (mark k ∷ is) (Busy (rx_wait f (negsuc 1) (suc (suc h)))) (suc h) true true s d n waits (book_step c true s d n b)
+        (between (mark k ∷ is) (Some (rx_wait f (negsuc 1) (suc (suc h)))) (suc h) true true s d n waits (book_step c true s d n b)
         (ledger_mark (count_after c (half_passes true false)) is k (ledger_step c true (mark (suc k) ∷ is) 0 l)) a)
 
     -- the levels of a word, from its half k on
@@ -200,22 +198,22 @@ module _ (f : Format) (items : List LineItem) (r0 : ℕ) where
     cell_level v k j y e h l =
         rw e (spread_at f.half_bit (frame f (bits f.«data» v)) j y h (rw (cells_length f (bits f.«data» v) (bits_length f.«data» v)) l))
 
-    start_half : (c : Count) (ls : List Bool) (is : List LineItem) (v : ℕ) (x : Receiver) (h : ℕ) (hi : Bool) (s d n : ℕ) → Free f h hi false x → Book c s d n
+    start_half : (c : Count) (ls : List Bool) (is : List LineItem) (v : ℕ) (x : Option Rx) (h : ℕ) (hi : Bool) (s d n : ℕ) → Free f h hi false x → Book c s d n
         → Ledger c (word_of v ∷ is) 0 → prefix ls (drop 1 (spread f.half_bit (frame f (bits f.«data» v))) ++ signal f is)
         → Where (count_after c (half_passes false (completing (state f x h hi false s d n)))) ls (v_half (state f x h hi false s d n))
     unfolding completing
     start_half c ls is v x h true s d n waits b l a =
-        show_half c ls (state f (Busy (rx_wait f (negsuc 1) (suc h))) h true false s d n)
-        (state f (Busy (rx_wait f (negsuc 0) (suc h + f.half_bit / 2 - 1))) (suc h) false false s d n) false false
+        show_half c ls (state f (Some (rx_wait f (negsuc 1) (suc h))) h true false s d n)
+        (state f (Some (rx_wait f (negsuc 0) (suc h + f.half_bit / 2 - 1))) (suc h) false false s d n) false false
         (and_false (eqb (suc h) (suc h))) (falls f h true s d n plain)
-        (inside v 1 is (Busy (rx_wait f (negsuc 0) (suc h + f.half_bit / 2 - 1))) (suc h) false false s d n
+        (inside v 1 is (Some (rx_wait f (negsuc 0) (suc h + f.half_bit / 2 - 1))) (suc h) false false s d n
         (starting (suc h + f.half_bit / 2 - 1) (f.half_bit / 2) (omega arith) (omega arith) (omega arith) (omega arith)) (book_step c false s d n b)
         (ledger_step c false (word_of v ∷ is) 0 l) a)
     start_half c ls is v x h false s d n waits b l a =
-        show_half c ls (state f (Busy (rx_wait f (negsuc 1) (suc (suc h)))) h false false s d n)
-        (state f (Busy (rx_wait f (negsuc 1) (suc (suc h)))) (suc h) true false s d n) false false
+        show_half c ls (state f (Some (rx_wait f (negsuc 1) (suc (suc h)))) h false false s d n)
+        (state f (Some (rx_wait f (negsuc 1) (suc (suc h)))) (suc h) true false s d n) false false
         (and_false (eqb (suc (suc h)) (suc h))) (quiet f h false s d n false f 0 (negsuc 1) false 0 (suc (suc h)) (omega arith))
-        (inside v 1 is (Busy (rx_wait f (negsuc 1) (suc (suc h)))) (suc h) true false s d n (waiting refl) (book_step c false s d n b)
+        (inside v 1 is (Some (rx_wait f (negsuc 1) (suc (suc h)))) (suc h) true false s d n (waiting refl) (book_step c false s d n b)
         (ledger_step c false (word_of v ∷ is) 0 l) a)
 
     room : (j : ℕ) → j ≤ f.«data» + one_if f.parity → j * f.half_bit + f.half_bit + f.half_bit ≤ span f
@@ -226,7 +224,7 @@ module _ (f : Format) (items : List LineItem) (r0 : ℕ) where
 
     -- inside a word
     module _ (c : Count) (ls : List Bool) (is : List LineItem) (v k h : ℕ) (hi : Bool) (s d n : ℕ) (b : Book c s d n) (l : Ledger c (word_of v ∷ is) k) where
-      abbrev Next : Bool → Receiver → Type 0
+      abbrev Next : Bool → Option Rx → Type 0
       Next m x = Where (count_after c (half_passes m (completing (state f x h hi m s d n)))) ls (v_half (state f x h hi m s d n))
 
       abbrev Ahead : ℕ → Type 0
@@ -234,84 +232,84 @@ module _ (f : Format) (items : List LineItem) (r0 : ℕ) where
 
       -- a half that does not sample
       pass_half : (m : Bool) (z : ℤ) (val t : ℕ) (par : Bool) → t ≢ suc h → Ahead (suc k)
-          → Phase f (bits f.«data» v) (suc h) (suc k) (Busy (record { format = f; value = val; position = z; parity = par; error = 0; next = At t }))
-          → Next m (Busy (record { format = f; value = val; position = z; parity = par; error = 0; next = At t }))
+          → Phase f (bits f.«data» v) (suc h) (suc k) (Some (record { format = f; value = val; position = z; parity = par; error = 0; next = Some t }))
+          → Next m (Some (record { format = f; value = val; position = z; parity = par; error = 0; next = Some t }))
       unfolding completing
       pass_half m z val t par ne a ph =
-          show_half c ls (state f (Busy (record { format = f; value = val; position = z; parity = par; error = 0; next = At t })) h hi m s d n)
-          (state f (Busy (record { format = f; value = val; position = z; parity = par; error = 0; next = At t })) (suc h) (not hi) m s d n) m false
+          show_half c ls (state f (Some (record { format = f; value = val; position = z; parity = par; error = 0; next = Some t })) h hi m s d n)
+          (state f (Some (record { format = f; value = val; position = z; parity = par; error = 0; next = Some t })) (suc h) (not hi) m s d n) m false
           (rw (ne_eqb t (suc h) ne)) (quiet f h hi s d n m f val z par 0 t ne)
-          (inside v (suc k) is (Busy (record { format = f; value = val; position = z; parity = par; error = 0; next = At t })) (suc h) (not hi) m s d n ph (book_step c m s d n b) (ledger_step c m (word_of v ∷ is) k l) a)
+          (inside v (suc k) is (Some (record { format = f; value = val; position = z; parity = par; error = 0; next = Some t })) (suc h) (not hi) m s d n ph (book_step c m s d n b) (ledger_step c m (word_of v ∷ is) k l) a)
 
       -- the data cell j
       data_half : (j e : ℕ) → suc k ≡ j * f.half_bit + f.half_bit + e → f.half_bit / 2 ≤ e → e ≤ f.half_bit / 2 + 1 → j < f.«data» → Ahead (suc k)
-          → Next (get_or (bits f.«data» v) j false) (Busy (rx_at f (bits f.«data» v) j (suc h)))
+          → Next (get_or (bits f.«data» v) j false) (Some (rx_at f (bits f.«data» v) j (suc h)))
       unfolding completing
       data_half j e q lo up lt a =
-          show_half c ls (state f (Busy (rx_at f (bits f.«data» v) j (suc h))) h hi (get_or (bits f.«data» v) j false) s d n)
-          (state f (Busy (rx_at f (bits f.«data» v) (suc j) (suc h + f.half_bit))) (suc h) (not hi) (get_or (bits f.«data» v) j false) s d n)
+          show_half c ls (state f (Some (rx_at f (bits f.«data» v) j (suc h))) h hi (get_or (bits f.«data» v) j false) s d n)
+          (state f (Some (rx_at f (bits f.«data» v) (suc j) (suc h + f.half_bit))) (suc h) (not hi) (get_or (bits f.«data» v) j false) s d n)
           (get_or (bits f.«data» v) j false) false
           (rw (eq-eqb (suc h) (suc h) refl, ne_eqb j (f.«data» + one_if f.parity) (omega arith)))
           (takes f h hi s d n (bits f.«data» v) j (omega (arith, bits_length f.«data» v)) (bits_length f.«data» v))
-          (inside v (suc k) is (Busy (rx_at f (bits f.«data» v) (suc j) (suc h + f.half_bit))) (suc h) (not hi) (get_or (bits f.«data» v) j false) s d n
+          (inside v (suc k) is (Some (rx_at f (bits f.«data» v) (suc j) (suc h + f.half_bit))) (suc h) (not hi) (get_or (bits f.«data» v) j false) s d n
           (taking (suc h + f.half_bit) e (suc j) (omega arith) (omega arith) lo up (omega arith))
           (book_step c (get_or (bits f.«data» v) j false) s d n b) (ledger_step c (get_or (bits f.«data» v) j false) (word_of v ∷ is) k l) a)
 
       -- the parity cell
       check_half : (e : ℕ) → suc k ≡ f.«data» * f.half_bit + f.half_bit + e → f.half_bit / 2 ≤ e → e ≤ f.half_bit / 2 + 1 → f.parity ≡ true → Ahead (suc k)
-          → Next (differ (odd_ones (bits f.«data» v)) f.odd) (Busy (rx_at f (bits f.«data» v) f.«data» (suc h)))
+          → Next (differ (odd_ones (bits f.«data» v)) f.odd) (Some (rx_at f (bits f.«data» v) f.«data» (suc h)))
       unfolding completing
       check_half e q lo up p a =
           let m : Bool = differ (odd_ones (bits f.«data» v)) f.odd in
-          show_half c ls (state f (Busy (rx_at f (bits f.«data» v) f.«data» (suc h))) h hi m s d n)
-          (state f (Busy (rx_at f (bits f.«data» v) (suc f.«data») (suc h + f.half_bit))) (suc h) (not hi) m s d n) m false
+          show_half c ls (state f (Some (rx_at f (bits f.«data» v) f.«data» (suc h))) h hi m s d n)
+          (state f (Some (rx_at f (bits f.«data» v) (suc f.«data») (suc h + f.half_bit))) (suc h) (not hi) m s d n) m false
           (rw (eq-eqb (suc h) (suc h) refl, p, ne_eqb f.«data» (f.«data» + 1) (omega arith)))
           (checks f h hi s d n (bits f.«data» v) (bits_length f.«data» v) p)
-          (inside v (suc k) is (Busy (rx_at f (bits f.«data» v) (suc f.«data») (suc h + f.half_bit))) (suc h) (not hi) m s d n
+          (inside v (suc k) is (Some (rx_at f (bits f.«data» v) (suc f.«data») (suc h + f.half_bit))) (suc h) (not hi) m s d n
           (taking (suc h + f.half_bit) e (suc f.«data») (omega arith) (omega arith) lo up (omega (arith, ap one_if p)))
           (book_step c m s d n b) (ledger_step c m (word_of v ∷ is) k l) a)
 
       -- the first stop cell
       stop_half : (e : ℕ) → suc k ≡ (f.«data» + one_if f.parity) * f.half_bit + f.half_bit + e → f.half_bit / 2 ≤ e → e ≤ f.half_bit / 2 + 1 → c.unread ≡ false → Ahead (suc k)
-          → Next true (Busy (rx_at f (bits f.«data» v) (f.«data» + one_if f.parity) (suc h)))
+          → Next true (Some (rx_at f (bits f.«data» v) (f.«data» + one_if f.parity) (suc h)))
       unfolding completing signal
       stop_half e q lo up u a =
           let bs : List Bool = bits f.«data» v in
           let z : s ≡ 0 = b.flag ∙ ap (λ (x : Bool). cond x 0x40 0) u in
           let g : suc k ≡ stop f * f.half_bit + e = omega arith in
-          show_half c ls (state f (Busy (rx_at f bs (f.«data» + one_if f.parity) (suc h))) h hi true s d n)
-          (state f Idle (suc h) (not hi) true 0x40 (number bs) (suc n % 2 ^ 64)) true true
+          show_half c ls (state f (Some (rx_at f bs (f.«data» + one_if f.parity) (suc h))) h hi true s d n)
+          (state f None (suc h) (not hi) true 0x40 (number bs) (suc n % 2 ^ 64)) true true
           (rw (eq-eqb (suc h) (suc h) refl, eq-eqb (f.«data» + one_if f.parity) (f.«data» + one_if f.parity) refl))
           (rw z (stops_at f h hi s d n bs (bits_length f.«data» v)))
-          (between (mark (f.stops * f.half_bit - e) ∷ is) Idle (suc h) (not hi) true 0x40 (number bs) (suc n % 2 ^ 64) no_word
+          (between (mark (f.stops * f.half_bit - e) ∷ is) None (suc h) (not hi) true 0x40 (number bs) (suc n % 2 ^ 64) no_word
           (book_done plain c true s d n v is k l b) (ledger_done c true is v k e g (omega arith) (omega arith) st l)
           (rw (g, tail_marks f bs (bits_length f.«data» v) e) at a))
 
       -- the start cell: the falling phase, and the middle
-      fall_half : k ≡ 1 → Ahead (suc k) → Next false (Busy (rx_wait f (negsuc 1) (suc h)))
+      fall_half : k ≡ 1 → Ahead (suc k) → Next false (Some (rx_wait f (negsuc 1) (suc h)))
       unfolding completing
       fall_half q a =
-          show_half c ls (state f (Busy (rx_wait f (negsuc 1) (suc h))) h hi false s d n)
-          (state f (Busy (rx_wait f (negsuc 0) (suc h + f.half_bit / 2 - 1))) (suc h) (not hi) false s d n) false false
+          show_half c ls (state f (Some (rx_wait f (negsuc 1) (suc h))) h hi false s d n)
+          (state f (Some (rx_wait f (negsuc 0) (suc h + f.half_bit / 2 - 1))) (suc h) (not hi) false s d n) false false
           (and_false (eqb (suc h) (suc h))) (falls f h hi s d n plain)
-          (inside v (suc k) is (Busy (rx_wait f (negsuc 0) (suc h + f.half_bit / 2 - 1))) (suc h) (not hi) false s d n
+          (inside v (suc k) is (Some (rx_wait f (negsuc 0) (suc h + f.half_bit / 2 - 1))) (suc h) (not hi) false s d n
           (starting (suc h + f.half_bit / 2 - 1) (f.half_bit / 2 + 1) (omega arith) (omega arith) (omega arith) (omega arith)) (book_step c false s d n b)
           (ledger_step c false (word_of v ∷ is) k l) a)
 
-      begin_half : (e : ℕ) → suc k ≡ e → f.half_bit / 2 ≤ e → e ≤ f.half_bit / 2 + 1 → Ahead (suc k) → Next false (Busy (rx_wait f (negsuc 0) (suc h)))
+      begin_half : (e : ℕ) → suc k ≡ e → f.half_bit / 2 ≤ e → e ≤ f.half_bit / 2 + 1 → Ahead (suc k) → Next false (Some (rx_wait f (negsuc 0) (suc h)))
       unfolding completing
       begin_half e q lo up a =
-          show_half c ls (state f (Busy (rx_wait f (negsuc 0) (suc h))) h hi false s d n)
-          (state f (Busy (rx_at f (bits f.«data» v) 0 (suc h + f.half_bit))) (suc h) (not hi) false s d n) false false
+          show_half c ls (state f (Some (rx_wait f (negsuc 0) (suc h))) h hi false s d n)
+          (state f (Some (rx_at f (bits f.«data» v) 0 (suc h + f.half_bit))) (suc h) (not hi) false s d n) false false
           (and_false (eqb (suc h) (suc h))) (starts f h hi s d n (bits f.«data» v))
-          (inside v (suc k) is (Busy (rx_at f (bits f.«data» v) 0 (suc h + f.half_bit))) (suc h) (not hi) false s d n
+          (inside v (suc k) is (Some (rx_at f (bits f.«data» v) 0 (suc h + f.half_bit))) (suc h) (not hi) false s d n
           (taking (suc h + f.half_bit) e 0 (omega arith) (omega arith) lo up (omega arith)) (book_step c false s d n b)
           (ledger_step c false (word_of v ∷ is) k l) a)
 
     -- a due half in cell suc j: the level, by what the cell holds
     module _ (c : Count) (ls : List Bool) (is : List LineItem) (v k h : ℕ) (hi m : Bool) (s d n : ℕ) (b : Book c s d n) (l : Ledger c (word_of v ∷ is) k)
         (a : prefix (m ∷ ls) (drop k (spread f.half_bit (frame f (bits f.«data» v))) ++ signal f is)) where
-      abbrev To : Receiver → Type 0
+      abbrev To : Option Rx → Type 0
       To x = Where (count_after c (half_passes m (completing (state f x h hi m s d n)))) ls (v_half (state f x h hi m s d n))
 
       level : (j y : ℕ) → k ≡ j * f.half_bit + y → y < f.half_bit → j < stop f + f.stops → k < span f → m ≡ get_or (frame f (bits f.«data» v)) j false
@@ -320,13 +318,13 @@ module _ (f : Format) (items : List LineItem) (r0 : ℕ) where
       ahead : k < span f → prefix ls (drop (suc k) (spread f.half_bit (frame f (bits f.«data» v))) ++ signal f is)
       ahead le = (word_ahead v k m ls (signal f is) le a).1
 
-      at_top : (j : ℕ) → j ≡ f.«data» + one_if f.parity → completing (state f (Busy (rx_at f (bits f.«data» v) j (suc h))) h hi m s d n) ≡ true
+      at_top : (j : ℕ) → j ≡ f.«data» + one_if f.parity → completing (state f (Some (rx_at f (bits f.«data» v) j (suc h))) h hi m s d n) ≡ true
       unfolding completing
       at_top j top = rw (eq-eqb (suc h) (suc h) refl, eq-eqb j (f.«data» + one_if f.parity) top)
 
       sample_half : (e j : ℕ) → suc k ≡ j * f.half_bit + f.half_bit + e → f.half_bit / 2 ≤ e → e ≤ f.half_bit / 2 + 1 → j ≤ f.«data» + one_if f.parity
-          → (completing (state f (Busy (rx_at f (bits f.«data» v) j (suc h))) h hi m s d n) ≡ true → c.unread ≡ false)
-          → Dec (j < f.«data») → Dec (j ≡ f.«data» + one_if f.parity) → To (Busy (rx_at f (bits f.«data» v) j (suc h)))
+          → (completing (state f (Some (rx_at f (bits f.«data» v) j (suc h))) h hi m s d n) ≡ true → c.unread ≡ false)
+          → Dec (j < f.«data») → Dec (j ≡ f.«data» + one_if f.parity) → To (Some (rx_at f (bits f.«data» v) j (suc h)))
       sample_half e j q lo up jle u (yes lt) r =
           let le : k < span f = omega (arith, room j jle) in
           let w : m ≡ get_or (bits f.«data» v) j false
@@ -350,14 +348,14 @@ module _ (f : Format) (items : List LineItem) (r0 : ℕ) where
           let g : suc k ≡ f.«data» * f.half_bit + f.half_bit + e = subst (λ (x : ℕ). suc k ≡ x * f.half_bit + f.half_bit + e) same q in
           rw (w, same) (check_half c ls is v k h hi s d n b l e g lo up p (ahead le))
 
-      inside_half : (x : Receiver) → Phase f (bits f.«data» v) h k x → (completing (state f x h hi m s d n) ≡ true → c.unread ≡ false) → To x
+      inside_half : (x : Option Rx) → Phase f (bits f.«data» v) h k x → (completing (state f x h hi m s d n) ≡ true → c.unread ≡ false) → To x
       inside_half x (waiting q) u =
           let le : k < span f = omega (arith, room 0 (omega arith)) in
           let w : m ≡ false = level 0 k (omega arith) (omega arith) (omega arith) le ∙ start_cell f (bits f.«data» v) (bits_length f.«data» v) in
           rw w (fall_half c ls is v k h hi s d n b l q (ahead le))
       inside_half x (starting t e q lt lo up) u = go (ℕ_discrete t (suc h))
         where
-          go : Dec (t ≡ suc h) → To (Busy (rx_wait f (negsuc 0) t))
+          go : Dec (t ≡ suc h) → To (Some (rx_wait f (negsuc 0) t))
           go (yes p) =
               let le : k < span f = omega (arith, room 0 (omega arith)) in
               let w : m ≡ false = level 0 k (omega arith) (omega arith) (omega arith) le ∙ start_cell f (bits f.«data» v) (bits_length f.«data» v) in
@@ -367,16 +365,16 @@ module _ (f : Format) (items : List LineItem) (r0 : ℕ) where
               pass_half c ls is v k h hi s d n b l m (negsuc 0) 0 t false p (ahead le) (starting t e (omega arith) (omega arith) lo up)
       inside_half x (taking t e j q lt lo up jle) u = go (ℕ_discrete t (suc h))
         where
-          go : Dec (t ≡ suc h) → To (Busy (rx_at f (bits f.«data» v) j t))
+          go : Dec (t ≡ suc h) → To (Some (rx_at f (bits f.«data» v) j t))
           go (yes p) =
-              rw p (sample_half e j (omega arith) lo up jle (subst (λ (y : ℕ). completing (state f (Busy (rx_at f (bits f.«data» v) j y)) h hi m s d n) ≡ true → c.unread ≡ false) p u)
+              rw p (sample_half e j (omega arith) lo up jle (subst (λ (y : ℕ). completing (state f (Some (rx_at f (bits f.«data» v) j y)) h hi m s d n) ≡ true → c.unread ≡ false) p u)
               (dec_lt j f.«data») (ℕ_discrete j (f.«data» + one_if f.parity)))
           go (no p) =
               let le : k < span f = omega (arith, room j jle) in
               pass_half c ls is v k h hi s d n b l m (pos j) (number (take j (bits f.«data» v))) t (odd_ones (take j (bits f.«data» v))) p (ahead le) (taking t e j (omega arith) (omega arith) lo up jle)
 
     -- a half between words: mark goes on, or a word begins
-    between_half : (is : List LineItem) (c : Count) (ls : List Bool) (x : Receiver) (h : ℕ) (hi m : Bool) (s d n : ℕ) → Free f h hi m x → Book c s d n → Ledger c is 0
+    between_half : (is : List LineItem) (c : Count) (ls : List Bool) (x : Option Rx) (h : ℕ) (hi m : Bool) (s d n : ℕ) → Free f h hi m x → Book c s d n → Ledger c is 0
         → prefix (m ∷ ls) (signal f is) → Where (count_after c (half_passes m (completing (state f x h hi m s d n)))) ls (v_half (state f x h hi m s d n))
     unfolding signal
     between_half [] c ls x h hi m s d n fr b l a = absurd a
@@ -407,11 +405,11 @@ module _ (f : Format) (items : List LineItem) (r0 : ℕ) where
     -- the line is set
     pub line_keeps : (c : Count) (ls : List Bool) (v : View) (m : Bool) → Where c ls v → Where c ls (v_arm (v_mark v m))
     line_keeps c ls v true (between is x h hi m s d n no_word b l a) =
-        rw (arm_mark f h hi s d n) (between is Idle h hi true s d n no_word b l a)
+        rw (arm_mark f h hi s d n) (between is None h hi true s d n no_word b l a)
     line_keeps c ls v false (between is x h hi m s d n no_word b l a) =
-        rw (line_arms f h hi s d n plain (no_error c s d n b)) (between is (Busy (rx_wait f (negsuc 1) (fall h hi))) h hi false s d n waits b l a)
+        rw (line_arms f h hi s d n plain (no_error c s d n b)) (between is (Some (rx_wait f (negsuc 1) (fall h hi))) h hi false s d n waits b l a)
     line_keeps c ls v y (between is x h hi m s d n waits b l a) =
-        rw (arm_busy f (rx_wait f (negsuc 1) (fall h hi)) h hi y s d n) (between is (Busy (rx_wait f (negsuc 1) (fall h hi))) h hi y s d n waits b l a)
+        rw (arm_busy f (rx_wait f (negsuc 1) (fall h hi)) h hi y s d n) (between is (Some (rx_wait f (negsuc 1) (fall h hi))) h hi y s d n waits b l a)
     line_keeps c ls v y (inside w k is x h hi m s d n p b l a) =
         rw (arm_phase f (bits f.«data» w) h k x hi y s d n p) (inside w k is x h hi y s d n p b l a)
 
@@ -423,7 +421,7 @@ module _ (f : Format) (items : List LineItem) (r0 : ℕ) where
       pub most : c.completions ≤ stop_cells_begun f items c.halves
       pub least : stop_cells_passed f items c.halves ≤ c.completions
 
-    early : (bs : List Bool) (h k : ℕ) (x : Receiver) → Phase f bs h k x → k < suc (stop f) * f.half_bit
+    early : (bs : List Bool) (h k : ℕ) (x : Option Rx) → Phase f bs h k x → k < suc (stop f) * f.half_bit
     early bs h k x (waiting q) = omega (arith, room 0 (omega arith))
     early bs h k x (starting t e q lt lo up) = omega arith
     early bs h k x (taking t e j q lt lo up le) = let a : j * f.half_bit ≤ (f.«data» + one_if f.parity) * f.half_bit = mul-le-mul_right f.half_bit le in omega arith
@@ -465,21 +463,21 @@ module _ (f : Format) (items : List LineItem) (r0 : ℕ) where
     pub where_stands : (c : Count) (ls : List Bool) (v : View) → Where c ls v → Stands v
     where_stands c ls v (between is x h hi m s d n fr b l a) = record { fmt = refl; runs = refl; plain_rx = free fr }
       where
-        free : {h : ℕ} {hi m : Bool} {x : Receiver} → Free f h hi m x → rx_clocked x ≡ false
+        free : {h : ℕ} {hi m : Bool} {x : Option Rx} → Free f h hi m x → rx_clocked x ≡ false
         free no_word = refl
         free waits = plain
     where_stands c ls v (inside w k is x h hi m s d n ph b l a) = record { fmt = refl; runs = refl; plain_rx = phase ph }
       where
-        phase : {bs : List Bool} {h k : ℕ} {x : Receiver} → Phase f bs h k x → rx_clocked x ≡ false
+        phase : {bs : List Bool} {h k : ℕ} {x : Option Rx} → Phase f bs h k x → rx_clocked x ≡ false
         phase (waiting q) = plain
         phase (starting t e q lt lo up) = plain
         phase (taking t e j q lt lo up le) = plain
 
     -- the start of the words
-    pub start_where : (ls : List Bool) (h : ℕ) (hi : Bool) (d : ℕ) → prefix ls (signal f items) → Where none_yet ls (state f Idle h hi true 0 d r0)
+    pub start_where : (ls : List Bool) (h : ℕ) (hi : Bool) (d : ℕ) → prefix ls (signal f items) → Where none_yet ls (state f None h hi true 0 d r0)
     unfolding tally_after
     start_where ls h hi d a =
-        between items Idle h hi true 0 d r0 no_word (record { flag = refl; word = λ j z. absurd (no_less j z); tally = refl })
+        between items None h hi true 0 d r0 no_word (record { flag = refl; word = λ j z. absurd (no_less j z); tally = refl })
         (record {
           more = λ x. omega arith;
           less = λ x. omega arith;

@@ -1,10 +1,7 @@
 -- Ports that fall short, each built from the real one, and that the claim (specs/Recovery.antt) is false of each: proved in proofs/NearMisses.antt.
 -- Assumes nothing.
-use Rattle.std.specs.Prelude.{ℕ, zero, suc, cond, not, ◌&&◌}
-use Rattle.shift.specs.declared.Due.TheVariants.{At}
+use Rattle.std.specs.Prelude.{ℕ, zero, suc, cond, not, ◌&&◌, Option, None, Some}
 use Rattle.port.specs.declared.Port.{Port}
-use Rattle.shift.specs.declared.Receiver.{Receiver}
-use Rattle.shift.specs.declared.Receiver.TheVariants.{Busy, Idle}
 use Rattle.frame.specs.Frame.{one_if}
 use Rattle.port.specs.Baud.{counted, internal}
 use Rattle.port.specs.Calls.{Answer, called, direct, done, refused}
@@ -13,6 +10,7 @@ use Rattle.command.specs.declared.Command.TheVariants.{Wait, Inside, Read, Line,
 use Rattle.port.specs.Fields.{with_rdr, with_received, with_rx}
 use Rattle.port.specs.Half.{half_step}
 use Rattle.recovery.specs.Recovery.{Recovers, completes}
+use Rattle.shift.specs.declared.Rx.{Rx}
 
 -- ---- ports with another half
 unfoldable pub repeat : (Port → Port) → ℕ → Port → Port
@@ -49,10 +47,10 @@ abbrev pub counts_none : Command → Port → Answer
 counts_none = halves_by direct (λ p. p)
 
 -- two completions for one word: the first, which falls on a half of low phase, leaves the word in the receiver for one half more
-abbrev pub one_half_more : Receiver → ℕ → Receiver
-one_half_more Idle h = Idle
-one_half_more (Busy r) h =
-    Busy (record { format = r.format; value = r.value; position = r.position; parity = r.parity; error = r.error; next = At (suc h) })
+abbrev pub one_half_more : Option Rx → ℕ → Option Rx
+one_half_more None h = None
+one_half_more (Some r) h =
+    Some (record { format = r.format; value = r.value; position = r.position; parity = r.parity; error = r.error; next = Some (suc h) })
 
 abbrev pub completes_twice : Port → Port
 completes_twice p = cond (completes p && not p.high) (with_rx (half_step p) (one_half_more p.rx (suc p.half))) (half_step p)

@@ -1,115 +1,75 @@
--- The lines of a log's records one after the other, and the whole text of a run.
+-- The lines of records one after the other, and the whole text of a run.
 -- Assumes nothing.
 use mathlib.Core.Path.{◌≡◌, refl, sym, ap, ◌∙◌}
-use mathlib.Core.Bool.{false}
-use mathlib.Core.List.{List, [], ◌++◌, append_assoc, append-nil}
-use Prim.Native.Nat.{ℕ, zero, suc, ◌+◌, ◌*◌, ◌/◌, ◌≤◌, ◌<◌}
+use mathlib.Core.List.{List, [], ◌∷◌, ◌++◌}
+use Prim.Native.Nat.{ℕ, zero, suc, ◌+◌, ◌-◌, ◌*◌, ◌/◌, ◌≤◌, ◌<◌}
 use native.Mathlib.Omega.{arith}
-use native.Mathlib.Nat.{add-zero}
-use native.Mathlib.Numerals.{add-one}
-use lib.ListN.{length, drop, get_or, replicate, length-replicate}
-use lib.Seq.{drop-drop, get_or-drop}
-use lib.Dec.{eqb}
+use lib.ListN.{length, drop, take, get_or, replicate, length-replicate}
+use lib.Seq.{length-take-le}
 use borrow.Author.Tests.{lt-ltb, le-ltb}
+use Rattle.std.specs.List.{flat_map}
+use Rattle.std.specs.Simd.{first_chunks}
+use Rattle.std.proofs.lemmas.List.{get_or-take, take_more, flat_map_more, drop-take}
 use Rattle.port.specs.declared.Port.{Port}
-use Rattle.port.specs.declared.Port.{Port}
-use Rattle.port.specs.declared.Refusal.TheVariants.{Address, Operand as TooLarge, Infrared, Count, State}
-use Rattle.script.specs.declared.Fault.TheVariants.{Short, Number, Kind, Operand}
-use Rattle.machine.specs.Machine.{Run}
-use Rattle.player.specs.declared.Reason.{Reason}
-use Rattle.player.specs.declared.Reason.TheVariants.{Unread, Call, Full}
 use Rattle.port.specs.Power.{fresh}
-use Rattle.player.specs.declared.End.{End}
-use Rattle.player.specs.declared.End.TheVariants.{Accepted, Refused}
+use Rattle.machine.specs.Machine.{Run}
 use Rattle.player.specs.declared.Played.{Played}
-use Rattle.player.specs.Play.{record_length, reason_number, end_number, end_offset, ran, play}
+use Rattle.player.specs.Play.{record_length, end_number, end_offset, ran, play}
 use Rattle.player.proofs.Used.{within}
-use Rattle.store.specs.Store.{Stored}
-use Rattle.store.proofs.Laws.{both_stored, room_after}
-use Rattle.text.specs.Text.{printed, in_front}
-use Rattle.report.specs.Lines.{record_line, end_line, refused_line}
 use Rattle.report.specs.Printout.{first_line, record_lines, last_line, longest, log_length, too_long, printout}
-use Rattle.text.proofs.Laws.{at_front}
 
--- ---- lines
+-- ---- the loop over records
 
-pub line_from : (log : List ℕ) (at : ℕ) →
-    record_line (get_or log at 0) (get_or log (at + 1) 0) (get_or log (at + 2) 0) (get_or log (at + 3) 0) (get_or log (at + 4) 0) ≡ first_line (drop at log)
-line_from log at = rw (get_or-drop at log 0 0, get_or-drop at log 1 0, get_or-drop at log 2 0, get_or-drop at log 3 0, get_or-drop at log 4 0, add-zero)
+pub lines_long : (records : List (List ℕ)) → length (flat_map first_line records) ≡ 12 * length records
+lines_long [] = refl
+lines_long (x ∷ records) = omega (arith, lines_long records)
 
-lines_long : (n : ℕ) (log : List ℕ) → length (record_lines n log) ≡ 12 * n
-lines_long zero log = refl
-lines_long (suc n) log = omega (arith, lines_long n (drop record_length log))
+pub first_lines_long : (records : List (List ℕ)) (i : ℕ) → i ≤ length records → length (flat_map first_line (take i records)) ≡ 12 * i
+first_lines_long records i h = lines_long (take i records) ∙ ap (λ n. 12 * n) (length-take-le i records h)
 
-next_line : (n : ℕ) (log : List ℕ) → record_lines n log ++ first_line (drop (record_length * n) log) ≡ record_lines (suc n) log
-next_line zero log = sym (append-nil (first_line log))
-next_line (suc n) log =
-    let sum : record_length * suc n ≡ record_length + record_length * n = omega arith in
-    append_assoc (first_line log) (record_lines n (drop record_length log)) (first_line (drop (record_length * suc n) log))
-    ∙ ap (λ (l : List ℕ). first_line log ++ (record_lines n (drop record_length log) ++ first_line l)) (ap (λ (k : ℕ). drop k log) sum ∙ sym (drop-drop (record_length * n) record_length log))
-    ∙ ap (λ (l : List ℕ). first_line log ++ l) (next_line n (drop record_length log))
+pub one_more : (before : List ℕ) (records : List (List ℕ)) (i : ℕ) → i < length records →
+    (before ++ flat_map first_line (take i records)) ++ first_line (get_or records i []) ≡ before ++ flat_map first_line (take (i + 1) records)
+one_more before records i h =
+    flat_map_more first_line before (take i records) (get_or records i []) ∙ ap (λ l. before ++ flat_map first_line l) (sym (take_more records i [] h))
 
--- ---- the last line
+-- ---- the records of a log
 
-number_not_0 : (r : Reason) → eqb (reason_number r) 0 ≡ false
-number_not_0 (Unread Short) = refl
-number_not_0 (Unread Number) = refl
-number_not_0 (Unread Kind) = refl
-number_not_0 (Unread Operand) = refl
-number_not_0 (Call Address) = refl
-number_not_0 (Call TooLarge) = refl
-number_not_0 (Call Infrared) = refl
-number_not_0 (Call Count) = refl
-number_not_0 (Call State) = refl
-number_not_0 Full = refl
+-- a line is made of its record alone
+of_record : (n : ℕ) (log : List ℕ) → record_length ≤ n → first_line (take n log) ≡ first_line log
+of_record n log h =
+    rw (get_or-take n log 0 0 (omega arith), get_or-take n log 1 0 (omega arith), get_or-take n log 2 0 (omega arith), get_or-take n log 3 0 (omega arith), get_or-take n log 4 0 (omega arith))
 
-module _ (halves : ℕ) {at to : ℕ} {before after : List ℕ} where
-  pub last_accepted : (end : End) → end ≡ Accepted → Stored at (end_line halves) before to after →
-      Stored at (last_line (end_number end) (end_offset end) halves) before to after
-  last_accepted end e s = rw e s
-
-  pub last_refused : (end : End) {r : Reason} {n offset : ℕ} → end ≡ Refused r offset → n ≡ reason_number r → Stored at (refused_line n offset) before to after →
-      Stored at (last_line (end_number end) (end_offset end) halves) before to after
-  last_refused end {r} {n} {offset} e h s = rw (e, number_not_0 r, ← h) s
-
--- ---- the loop over the records
-
-pub none_stored : (buf : List ℕ) → Stored 0 [] buf 0 buf
-none_stored buf = record { end = refl; buffer = refl }
-
-module _ (log : List ℕ) (n : ℕ) {end : ℕ} {before now_is : List ℕ} (so_far : Stored 0 (record_lines n log) before end now_is) where
-  -- where it is in the text, and the room there is for k bytes more
-  pub room_for : (k : ℕ) → 12 * n + k ≤ length before → end + k ≤ length now_is
-  room_for k h = room_after k so_far (omega (arith, lines_long n log))
-
-  pub one_more : {to : ℕ} {text after : List ℕ} → text ≡ first_line (drop (record_length * n) log) → Stored end text now_is to after →
-      Stored 0 (record_lines (n + 1) log) before to after
-  one_more e s = rw (add-one, ← next_line n log, ← e) (both_stored (omega arith) so_far s)
-
-  pub all_lines : (count : ℕ) → n ≤ count → count ≤ n → Stored 0 (record_lines count log) before end now_is
-  all_lines count h g = let same : count ≡ n = omega arith in rw same so_far
+-- the lines of the records that lie within the first n bytes
+pub lines_of : (k n : ℕ) (log : List ℕ) → record_length * k ≤ n → flat_map first_line (first_chunks record_length k (take n log)) ≡ record_lines k log
+lines_of zero n log h = refl
+lines_of (suc k) n log h =
+    let rest : record_length + (n - record_length) ≡ n = omega arith in
+    let dropped : drop record_length (take n log) ≡ take (n - record_length) (drop record_length log) =
+    ap (λ m. drop record_length (take m log)) (sym rest) ∙ drop-take record_length (n - record_length) log in
+    let first = of_record record_length (take n log) (omega arith) ∙ of_record n log (omega arith) in
+    ap (λ (l : List ℕ). l ++ flat_map first_line (first_chunks record_length k (drop record_length (take n log)))) first
+    ∙ ap (λ (l : List ℕ). first_line log ++ l)
+    (ap (λ (l : List ℕ). flat_map first_line (first_chunks record_length k l)) dropped ∙ lines_of k (n - record_length) (drop record_length log) (omega arith))
 
 -- ---- the whole text
 
-pub too_long_text : (script : List ℕ) {before after : List ℕ} {to : ℕ} → longest < length script → Stored 0 too_long before to after →
-    printed to after ≡ in_front (printout script) before
+pub too_long_text : (script : List ℕ) → longest < length script → too_long ≡ printout script
 unfolding printout
-too_long_text script h s = rw (lt-ltb longest (length script) h) (at_front s)
+too_long_text script h = rw (lt-ltb longest (length script) h)
 
-pub from_fresh : (script log zeros : List ℕ) (x : Played) (p : Port) → ran x log ≡ play p script zeros → p ≡ fresh → ran x log ≡ play fresh script zeros
-from_fresh script log zeros x p e h = e ∙ ap (λ (q : Port). play q script zeros) h
+module _ (script log : List ℕ) (p : Port) (x : Played) (run : ran x log ≡ play p script (replicate log_length 0)) where
+  pub used_within : x.used ≤ log_length
+  used_within = let w = within p script (replicate log_length 0) in omega (arith, ap (λ (r : Run Port). r.used) run, w.used, length-replicate {A = ℕ} log_length 0)
 
-module _ (script log : List ℕ) (x : Played) (run : ran x log ≡ play fresh script (replicate log_length 0)) where
-  used_within : x.used ≤ log_length
-  used_within = let w = within fresh script (replicate log_length 0) in omega (arith, ap (λ (r : Run Port). r.used) run, w.used, length-replicate {A = ℕ} log_length 0)
+  -- how many bytes of the log are used
+  pub part_long : length log ≡ log_length → length (take x.used log) ≡ x.used
+  part_long h = length-take-le x.used log (omega (arith, used_within))
 
-  pub records_fit : (before : List ℕ) → length log ≡ log_length → length before ≡ 98368 →
-      (record_length * (x.used / record_length) ≤ length log) × (12 * (x.used / record_length) + 64 ≤ length before)
-  records_fit before h g = (omega (arith, used_within), omega (arith, used_within))
-
-  pub run_printed : {before between after : List ℕ} {end to : ℕ} → length script ≤ longest →
-      Stored 0 (record_lines (x.used / record_length) log) before end between →
-      Stored end (last_line (end_number x.end) (end_offset x.end) x.port.half) between to after →
-      printed to after ≡ in_front (printout script) before
+  pub run_printed : p ≡ fresh → length log ≡ log_length → length script ≤ longest →
+      flat_map first_line (first_chunks record_length (length (take x.used log) / record_length) (take x.used log))
+      ++ last_line (end_number x.end) (end_offset x.end) x.port.half
+      ≡ printout script
   unfolding printout
-  run_printed h s t = rw (le-ltb longest (length script) h, ← run) (at_front (both_stored (omega arith) s t))
+  run_printed e h s =
+      let part = part_long h in
+      rw (le-ltb longest (length script) s, ← e, ← run, lines_of (length (take x.used log) / record_length) x.used log (omega arith), part)

@@ -1,133 +1,129 @@
 // The text that the program prints: a line for each record, the last line, and all of it for a script (document 01, "A script comes in").
+// `write!` appends the same texts, but no clause says when it succeeds, and what is here never fails.
 #![tactic(auto)]
 
-ghost use Rattle.std.specs.Prelude.{◌≡◌, ◌+◌, ◌≤◌, ◌*◌, length, drop};
-ghost use Rattle.store.specs.Store.{Stored};
-ghost use Rattle.player.specs.Play.{record_length, end_number, end_offset};
-ghost use Rattle.text.specs.Text.{printed, in_front};
-ghost use Rattle.report.specs.Lines.{bit, level, record_line, end_line, refused_line};
-ghost use Rattle.report.specs.Printout.{first_line, record_lines, last_line, printout};
+ghost use Rattle.std.specs.Prelude.{◌≡◌, ◌+◌, ◌*◌, ◌/◌, ◌≤◌, ◌<◌, ◌%◌, [], ◌∷◌, ◌++◌, length};
+ghost use Rattle.std.specs.List.{flat_map};
+ghost use Rattle.arrayvec.specs.ArrayString.{array_string_len};
+ghost use Rattle.player.specs.Play.{end_number, end_offset};
+ghost use Rattle.text.specs.Text.{hex_digit};
+ghost use Rattle.report.specs.Lines.{bit, level, end_line, refused_line};
+ghost use Rattle.report.specs.Printout.{first_line, last_line, printout};
 
-use player::{End, RECORD};
+use arrayvec::ArrayString;
+use player::{RECORD, Refused};
 use port::Port;
 
 // The longest script that the program takes.
 const LONGEST: usize = 16384;
 
 // `0` or `1`; `?` above 1.
-fn bit(n: u8) -> u8
-    ensures { result ≡ bit n }
+fn bit(n: u8) -> char
+    ensures value { result ≡ bit n }
+    ensures ascii { result < 128 }
 {
     match n {
-        0 => 48,
-        1 => 49,
-        _ => 63,
+        0 => '0',
+        1 => '1',
+        _ => '?',
     }
 }
 
 // A transmit level: 2 is not driven, `-`.
-fn level(n: u8) -> u8
-    ensures { result ≡ level n }
+fn level(n: u8) -> char
+    ensures value { result ≡ level n }
+    ensures ascii { result < 128 }
 {
-    if n == 2 { 45 } else { bit(n) }
+    if n == 2 { '-' } else { bit(n) }
+}
+
+// Appends a byte in two hexadecimal digits.
+#[tactic(auto, using(std::proofs::lemmas::Str::encode_ascii))]
+fn push_byte(line: &mut ArrayString<12>, byte: u8)
+    requires { array_string_len line.old + 2 ≤ 12 }
+    ensures { line.new.bytes ≡ line.old.bytes ++ (hex_digit (byte / 16) ∷ hex_digit (byte % 16) ∷ []) }
+{
+    line.push(text::hex_digit(byte / 16));
+    line.push(text::hex_digit(byte % 16));
 }
 
 // The line of a record, with its newline.
-pub fn record_line(kind: u8, answer: u8, ssr: u8, driven: u8, interrupt: u8) -> [u8; 12]
-    ensures { result ≡ record_line kind answer ssr driven interrupt }
+#[tactic(auto, using(std::proofs::lemmas::Str::encode_ascii))]
+pub fn record_line(bytes: [u8; RECORD]) -> ArrayString<12>
+    ensures { result.bytes ≡ first_line bytes }
 {
-    let k = text::hex_digit(kind);
-    let a = text::hex_digit(answer / 16);
-    let b = text::hex_digit(answer % 16);
-    let c = text::hex_digit(ssr / 16);
-    let d = text::hex_digit(ssr % 16);
-    let e = level(driven);
-    let f = bit(interrupt);
-    [k, 32, a, b, 32, c, d, 32, e, 32, f, 10]
+    let [kind, answer, ssr, driven, interrupt] = bytes;
+    let mut line = ArrayString::new();
+    line.push(text::hex_digit(kind));
+    line.push(' ');
+    push_byte(&mut line, answer);
+    line.push(' ');
+    push_byte(&mut line, ssr);
+    line.push(' ');
+    line.push(level(driven));
+    line.push(' ');
+    line.push(bit(interrupt));
+    line.push('\n');
+    line
 }
 
-// Writes the last line of a script that was accepted at an offset, and gives the offset after it.
-fn put_end(buf: &mut [u8], at: usize, halves: u32) -> usize
-    requires { at + 64 ≤ length buf.old }
-    ensures { Stored at (end_line halves) buf.old result buf.new }
+// The last line of a script that was accepted.
+pub fn end_line(halves: u32) -> ArrayString<64>
+    ensures { result.bytes ≡ end_line halves }
 {
-    let number = text::put_text(buf, at, b"end ");
-    let end = text::put_number(buf, number, halves as u64);
-    text::put_text(buf, end, b"\n")
+    let mut line = ArrayString::new();
+    line.push_str("end ");
+    text::push_number(&mut line, u64::from(halves));
+    line.push_str("\n");
+    line
 }
 
-// Writes the last line of a script that was refused at an offset, and gives the offset after it.
-fn put_refused(buf: &mut [u8], at: usize, number: u8, offset: usize) -> usize
-    requires { at + 64 ≤ length buf.old }
-    ensures { Stored at (refused_line number offset) buf.old result buf.new }
+// The last line of a script that was refused. It prints any number: `replay` prints with it what C is told.
+pub fn refused_line(number: u8, offset: usize) -> ArrayString<64>
+    ensures { result.bytes ≡ refused_line number offset }
 {
-    let first = text::put_text(buf, at, b"refused ");
-    let word = text::put_number(buf, first, number as u64);
-    let second = text::put_text(buf, word, b" at ");
-    let end = text::put_number(buf, second, offset as u64);
-    text::put_text(buf, end, b"\n")
+    let mut line = ArrayString::new();
+    line.push_str("refused ");
+    text::push_number(&mut line, u64::from(number));
+    line.push_str(" at ");
+    text::push_number(&mut line, offset as u64);
+    line.push_str("\n");
+    line
 }
 
-// The last line of a script that was accepted, at the front of the buffer; answers its length.
-pub fn end_line(buf: &mut [u8; 64], halves: u32) -> usize
-    ensures { printed result buf.new ≡ in_front (end_line halves) buf.old }
+// Appends the lines of records.
+fn push_records(out: &mut ArrayString<98368>, records: &[[u8; RECORD]])
+    requires { array_string_len out.old + 12 * length records.now ≤ 98368 }
+    ensures { out.new.bytes ≡ out.old.bytes ++ flat_map first_line records.now }
 {
-    put_end(buf, 0, halves)
-}
-
-// The last line of a script that was refused, at the front of the buffer; answers its length.
-pub fn refused_line(buf: &mut [u8; 64], number: u8, offset: usize) -> usize
-    ensures { printed result buf.new ≡ in_front (refused_line number offset) buf.old }
-{
-    put_refused(buf, 0, number, offset)
-}
-
-// The line of the record at an offset of a log.
-fn line_at(log: &[u8], at: usize) -> [u8; 12]
-    requires { at + record_length ≤ length log.now }
-    ensures { result ≡ first_line (drop at log.now) }
-{
-    record_line(log[at], log[at + 1], log[at + 2], log[at + 3], log[at + 4])
-}
-
-// Writes the lines of a log's first records at the front of the buffer, and gives the offset after them.
-fn put_records(buf: &mut [u8], log: &[u8], count: usize) -> usize
-    requires { (record_length * count ≤ length log.now) × (12 * count + 64 ≤ length buf.old) }
-    ensures { Stored 0 (record_lines count log.now) buf.old result buf.new }
-{
-    let mut n: usize = 0;
-    let mut end: usize = 0;
-    while n < count {
-        let line = line_at(log, RECORD * n);
-        end = text::put_text(buf, end, &line);
-        n = n + 1;
+    for bytes in records {
+        out.push_str(&record_line(*bytes));
     }
-    end
 }
 
-// Writes the last line of a run at an offset, and gives the offset after it.
-fn put_last(buf: &mut [u8], at: usize, end: End, halves: u32) -> usize
-    requires { at + 64 ≤ length buf.old }
-    ensures { Stored at (last_line (end_number end) (end_offset end) halves) buf.old result buf.new }
+// The last line of a run.
+fn last_line(end: Result<(), Refused>, halves: u32) -> ArrayString<64>
+    ensures { result.bytes ≡ last_line (end_number end) (end_offset end) halves }
 {
     match end {
-        End::Accepted => put_end(buf, at, halves),
-        End::Refused { reason, offset } => put_refused(buf, at, reason.number(), offset),
+        Ok(()) => end_line(halves),
+        Err(refused) => refused_line(u8::from(refused.reason), refused.offset),
     }
 }
 
-// Plays a script on a fresh port with a log of 40,960 bytes, and writes all that is printed of it at the front of the buffer; answers its length.
-pub fn printout(buf: &mut [u8; 98368], script: &[u8]) -> usize
-    ensures { printed result buf.new ≡ in_front (printout script.now) buf.old }
+// Plays a script on a fresh port with a log of 40,960 bytes, and leaves all that is printed of it, and nothing else. The text is lent: to hand it out would
+// take twice the stack.
+pub fn printout(script: &[u8], out: &mut ArrayString<98368>)
+    ensures { out.new.bytes ≡ printout script.now }
 {
+    out.clear();
     if LONGEST < script.len() {
-        return text::put_text(buf, 0, b"too long\n");
+        out.push_str("too long\n");
+        return;
     }
     let mut log = [0u8; 40960];
-    let played = player::play(Port::fresh(), script, &mut log);
-    let used = played.used;
-    let last = played.end;
-    let port = played.port;
-    let end = put_records(buf, &log, used / RECORD);
-    put_last(buf, end, last, port.half)
+    let played = player::play(Port::default(), script, &mut log);
+    let (records, _) = log[..played.used].as_chunks();
+    push_records(out, records);
+    out.push_str(&last_line(played.end, played.port.half));
 }

@@ -2,63 +2,33 @@
 // reading and writing are here.
 #![tactic(auto)]
 
-ghost use Rattle.std.specs.Prelude.{length};
-ghost use Rattle.sci3.specs.Private.Input.{Within};
+use arrayvec::ArrayString;
+use thiserror::Error;
 
-use std::io::Read;
-
-// What reading finds: so many bytes, or that standard input cannot be read.
-#[derive(Clone, Copy)]
-pub enum Input {
-    Bytes(usize),
-    Failed,
+// Why nothing, or not all, was printed.
+#[derive(Debug, Drop, Error)]
+enum Failure {
+    #[error("standard input cannot be read")]
+    Unread,
+    #[error("standard output cannot be written")]
+    Unwritten,
 }
 
-// One read into the buffer; no bytes at the end of the input.
-fn read_piece<R: Read>(input: &mut R, buf: &mut [u8]) -> Input
-    ensures { Within result (length buf.new) }
-{
-    match input.read(buf) {
-        Ok(got) => Input::Bytes(got),
-        Err(_) => Input::Failed,
-    }
-}
-
-// Reads standard input, which may come in pieces, to its end or until the buffer is full.
-fn read_input<R: Read>(input: &mut R, buf: &mut [u8]) -> Input
-    ensures { Within result (length buf.new) }
-{
-    let mut done: usize = 0;
-    while done < buf.len() {
-        match read_piece(input, &mut buf[done..]) {
-            Input::Failed => return Input::Failed,
-            Input::Bytes(more) => {
-                if more == 0 {
-                    return Input::Bytes(done);
-                }
-                done = done + more;
-            }
-        }
-    }
-    Input::Bytes(done)
-}
-
-// Prints a script's run in one piece, so that no line is ever cut by a refusal. Where even standard error cannot be written there is nothing left to say.
-fn print(rt: &(impl Print + Eprint), script: &[u8]) {
-    let mut text = [0u8; 98368];
-    let end = report::printout(&mut text, script);
-    if rt.write_all(&text[..end]).is_err() {
-        let _ = rt.eprintln("sci3: standard output cannot be written");
-    }
-}
-
-fn main(rt: HostRuntime) {
+// Prints a script's run in one piece, so that no line is ever cut by a refusal.
+fn play(rt: &HostRuntime) -> Result<(), Failure> {
     // One byte more than the longest script, to see that there is more.
     let mut script = [0u8; 16385];
-    match read_input(&mut rt.stdin(), &mut script) {
-        Input::Bytes(n) => print(&rt, &script[..n]),
-        Input::Failed => {
-            let _ = rt.eprintln("sci3: standard input cannot be read");
-        }
+    let (length, end) = reading::read_full(&mut rt.stdin(), &mut script);
+    end.map_err(|_| Failure::Unread)?;
+    let mut text = ArrayString::new();
+    report::printout(&script[..length], &mut text);
+    rt.write_all(text.as_bytes())
+        .map_err(|_| Failure::Unwritten)
+}
+
+// The exit status is 0 in any case: ./play gives one by the last line. Where even standard error cannot be written there is nothing left to say.
+fn main(rt: HostRuntime) {
+    if let Err(failure) = play(&rt) {
+        let _ = eprintln!(rt; "sci3: {failure}");
     }
 }

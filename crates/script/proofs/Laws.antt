@@ -1,25 +1,24 @@
 -- What reading finds at an offset, by the byte that stands there; how large a number can be; and how a number is written, byte by byte.
 -- Assumes nothing.
 use mathlib.Core.Path.{◌≡◌, refl, sym, ap, ◌∙◌}
-use mathlib.Core.Bool.{Bool, true, false, cond, ◌&&◌}
+use mathlib.Core.Bool.{Bool, false, cond, ◌&&◌}
 use mathlib.Core.List.{List, [], ◌∷◌, ◌++◌, append-nil}
 use Prim.Native.Nat.{ℕ, zero, suc, ◌+◌, ◌-◌, ◌*◌, ◌/◌, ◌%◌, ◌^◌, ◌≤◌, ◌<◌}
 use native.Mathlib.Omega.{arith, pow_step}
 use native.Mathlib.Numerals.{add-one}
 use native.Mathlib.Nat.{pow-le-pow_right}
-use lib.ListN.{length, get_or, take, drop, set, length-set, length-drop, drop_of_length-le}
+use lib.ListN.{length, get_or, take, drop, set, drop_of_length-le}
 use lib.Seq.{drop-cons, take_all}
 use lib.Dec.{ltb, eqb}
-use borrow.Author.Rules.{part_to_end}
 use borrow.Rule.Slice.PartMut.{put_mid}
+use mir.Syntax.{w8}
+use mir.Val.{Fits}
 use borrow.Author.Tests.{lt-ltb, le-ltb, ltb-false, eqb-false}
-use Rattle.branches.proofs.Branches.{either_way, or_left, or_right}
-use Rattle.store.proofs.Laws.{same_long}
-use Rattle.script.specs.declared.Fault.TheVariants.{Short, Number as NotANumber}
-use Rattle.script.specs.declared.Number.{Number}
-use Rattle.script.specs.declared.Number.TheVariants.{Value, Refused}
-use Rattle.script.specs.Number.{breaks, groups, with_group, number_at}
-use Rattle.script.specs.Encode.{encode_in, encode}
+use Rattle.branches.proofs.Branches.{or_left, or_right}
+use Rattle.script.specs.declared.Fault.TheVariants.{Number as NotANumber}
+use Rattle.std.proofs.Common.{Ok, Err}
+use Rattle.script.specs.Number.{Reads, finds, and_then, breaks, groups, with_group, number_at}
+use Rattle.script.specs.Encode.{encode_in}
 
 -- ---- reading
 
@@ -49,17 +48,12 @@ last_bound (suc k) b e h = rw (pow_step 128 k) (omega (arith, pow_above k))
 -- ---- the loop of `read_number`
 
 -- a number whose groups before came to `value`, where the next group counts `scale`
-abbrev pub shifted : ℕ → ℕ → Number → Number
-shifted scale value (Value v next) = Value (value + scale * v) next
-shifted scale value (Refused why) = Refused why
+abbrev pub shifted : ℕ → ℕ → Reads ℕ → Reads ℕ
+shifted scale value r = and_then r (λ v next. finds (value + scale * v) next)
 
-not_shifted : (r : Number) → r ≡ shifted 1 0 r
-not_shifted (Value v next) = ap (λ (n : ℕ). Value n next) (omega arith)
-not_shifted (Refused why) = refl
-
-shifted_on : (scale value b : ℕ) (r : Number) → shifted scale value (with_group b r) ≡ shifted (scale * 128) (value + scale * (b - 128)) r
-shifted_on scale value b (Value v next) = ap (λ (n : ℕ). Value n next) (omega arith)
-shifted_on scale value b (Refused why) = refl
+shifted_on : (scale value b : ℕ) (r : Reads ℕ) → shifted scale value (with_group b r) ≡ shifted (scale * 128) (value + scale * (b - 128)) r
+shifted_on scale value b (Ok found) = ap (λ (n : ℕ). finds n found.next) (omega arith)
+shifted_on scale value b (Err why) = refl
 
 -- what holds before each turn
 pub record Reading (s : List ℕ) (at value scale more i : ℕ) : Type 0 where
@@ -67,9 +61,6 @@ pub record Reading (s : List ℕ) (at value scale more i : ℕ) : Type 0 where
   pub left : more ≤ 4
   pub power : scale ≡ 128 ^ (4 - more)
   pub below : value < scale
-
-pub starts : (s : List ℕ) (at : ℕ) → Reading s at 0 1 4 at
-starts s at = record { so_far = not_shifted _; left = omega arith; power = refl; below = omega arith }
 
 -- the sum of a number's last byte fits
 last_sum : (more b value : ℕ) → more ≤ 4 → value < 128 ^ (4 - more) → breaks more b ≡ false → b < 128 →
@@ -98,29 +89,20 @@ group (suc (suc (suc (suc zero)))) b value h g e u w = omega arith
 group (suc (suc (suc (suc (suc k))))) b value h g e u w = absurd (omega arith)
 
 module _ (s : List ℕ) (at value scale more i : ℕ) (h : Reading s at value scale more i) where
-  pub read_short : length s ≤ i → Refused Short ≡ number_at s at
-  read_short g = sym (h.so_far ∙ rw (drop_of_length-le s g))
-
   -- `t` is the answer of the test `breaks` of the byte
   module _ (g : i < length s) (t : Bool) (e : t ≡ breaks more (get_or s i 0)) where
     step : groups more i (drop i s) ≡
-        cond t (Refused NotANumber)
-        (cond (ltb (get_or s i 0) 128) (Value (get_or s i 0) (i + 1)) (with_group (get_or s i 0) (groups (more - 1) (i + 1) (drop (i + 1) s))))
+        cond t (Err NotANumber)
+        (cond (ltb (get_or s i 0) 128) (finds (get_or s i 0) (i + 1)) (with_group (get_or s i 0) (groups (more - 1) (i + 1) (drop (i + 1) s))))
     step = rw (drop_next s i g, e)
 
-    pub read_broken : t ≡ true → Refused NotANumber ≡ number_at s at
-    read_broken f = sym (h.so_far ∙ rw (step, f))
-
     module _ (f : t ≡ false) where
-      pub read_last : get_or s i 0 < 128 → Value (value + scale * get_or s i 0) (i + 1) ≡ number_at s at
-      read_last u = sym (h.so_far ∙ rw (step, f, lt-ltb _ _ u))
-
       pub last_fits : get_or s i 0 < 128 → value + scale * get_or s i 0 < 4294967296
       last_fits u = rw h.power (last_sum more (get_or s i 0) value h.left (rw h.power at h.below) (sym e ∙ f) u)
 
-      module _ (u : 128 ≤ get_or s i 0) (w : get_or s i 0 < 256) where
+      module _ (u : 128 ≤ get_or s i 0) (w : (k : ℕ) → Fits w8 (get_or s k 0)) where
         pub read_group : Group value scale more (get_or s i 0)
-        read_group = rw h.power (group more (get_or s i 0) value h.left (rw h.power at h.below) (sym e ∙ f) u w)
+        read_group = rw h.power (group more (get_or s i 0) value h.left (rw h.power at h.below) (sym e ∙ f) u (omega (arith, w i)))
 
         pub read_on : Reading s at (value + scale * (get_or s i 0 - 128)) (scale * 128) (more - 1) (i + 1)
         read_on =
@@ -132,49 +114,6 @@ module _ (s : List ℕ) (at value scale more i : ℕ) (h : Reading s at value sc
             }
 
 -- ---- writing
-
-pub small : (k v : ℕ) → v < 128 → encode_in k v ≡ v ∷ []
-small zero v h = refl
-small (suc k) v h = rw (lt-ltb v 128 h)
-
--- a number in at most k bytes after the first
-pub encode_short : (k v : ℕ) → length (encode_in k v) ≤ k + 1
-encode_short zero v = omega arith
-encode_short (suc k) v =
-    either_way (ltb v 128)
-    (λ t. rw t (omega arith))
-    (λ t. rw t (omega (arith, encode_short k (v / 128))))
-
--- how many bytes a number takes, by its size
-module _ (v : ℕ) where
-  pub long_1 : v < 128 → length (encode v) ≡ 1
-  long_1 h = simp (lt-ltb v 128 h)
-
-  pub long_2 : 128 ≤ v → v < 16384 → length (encode v) ≡ 2
-  long_2 h g = simp (le-ltb v 128 h, lt-ltb (v / 128) 128 (omega arith))
-
-  pub long_3 : 16384 ≤ v → v < 2097152 → length (encode v) ≡ 3
-  long_3 h g = simp (le-ltb v 128 (omega arith), le-ltb (v / 128) 128 (omega arith), lt-ltb (v / 128 / 128) 128 (omega arith))
-
-  pub long_4 : 2097152 ≤ v → v < 268435456 → length (encode v) ≡ 4
-  long_4 h g =
-      simp (
-        le-ltb v 128 (omega arith),
-        le-ltb (v / 128) 128 (omega arith),
-        le-ltb (v / 128 / 128) 128 (omega arith),
-        lt-ltb (v / 128 / 128 / 128) 128 (omega arith),
-      )
-
-  pub long_5 : 268435456 ≤ v → length (encode v) ≡ 5
-  long_5 h =
-      simp (
-        le-ltb v 128 (omega arith),
-        le-ltb (v / 128) 128 (omega arith),
-        le-ltb (v / 128 / 128) 128 (omega arith),
-        le-ltb (v / 128 / 128 / 128) 128 (omega arith),
-      )
-
-pub ruleset sizes = (long_1, long_2, long_3, long_4, long_5)
 
 -- a number of more than one byte: its first byte, and the rest
 pub record Large (m v : ℕ) : Type 0 where
@@ -191,10 +130,6 @@ large (suc k) v h g =
     let bytes : encode_in (suc k) v ≡ (v % 128 + 128) ∷ encode_in (suc k - 1) (v / 128) = rw (le-ltb v 128 h, down) in
     record { more = omega arith; bytes = bytes; long = ap length bytes; rest = rw down (omega arith) }
 
--- room in the part of a buffer after its first byte, which was just stored
-pub room_behind : (buf : List ℕ) (b n : ℕ) → suc n ≤ length buf → n ≤ length (take (length (set buf 0 b) - 1) (drop 1 (set buf 0 b)))
-room_behind buf b n h = rw (part_to_end (set buf 0 b) 1, length-drop 1 (set buf 0 b), length-set buf 0 b) (omega arith)
-
 -- the buffer, once that part is back in its place with the bytes `vs` at its front
 pub joined : (buf ys vs : List ℕ) (b : ℕ) → 1 ≤ length buf →
     ys ≡ vs ++ drop (length vs) (take (length (set buf 0 b) - 1) (drop 1 (set buf 0 b))) →
@@ -204,7 +139,3 @@ joined (x ∷ xs) ys vs b h e =
     let none : drop (suc (length xs) - 1) xs ≡ [] = drop_of_length-le xs {i = suc (length xs) - 1} (omega arith) in
     let whole : take (suc (length xs) - 1) xs ≡ xs = take_all (suc (length xs) - 1) xs (omega arith) in
     rw (none, append-nil, e, whole)
-
-pub kept_long : (buf ys : List ℕ) (b : ℕ) → length ys ≡ length (take (length (set buf 0 b) - 1) (drop 1 (set buf 0 b))) →
-    length (put_mid 1 (length (set buf 0 b) - 1) (set buf 0 b) ys) ≡ length buf
-kept_long buf ys b h = same_long (set buf 0 b) ys 1 h ∙ length-set buf 0 b

@@ -1,5 +1,4 @@
 pub mod Laws
-pub mod Clauses
 pub mod Writes
 pub mod Numbers
 pub mod Commands

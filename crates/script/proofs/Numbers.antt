@@ -10,9 +10,8 @@ use lib.Seq.{drop_at, drop-drop, drop-append_seam}
 use lib.Dec.{ltb, eqb}
 use borrow.Author.Tests.{ltb-true, ltb-false, lt-ltb, le-ltb, ne_eqb, eqb-true}
 use Rattle.branches.proofs.Branches.{by_cond, either_way}
-use Rattle.script.specs.declared.Number.{Number}
-use Rattle.script.specs.declared.Number.TheVariants.{Value, Refused}
-use Rattle.script.specs.Number.{breaks, groups, with_group}
+use Rattle.std.proofs.Common.{Ok, Err}
+use Rattle.script.specs.Number.{Reads, finds, breaks, groups, with_group}
 use Rattle.script.specs.Encode.{encode_in, encode}
 use Rattle.script.specs.RoundTrip.{Bytes, Stands, BytesStand, NumbersReadBack, NumbersAreEncodings}
 use Rattle.script.proofs.Laws.{not_zero, fifth, last_bound}
@@ -59,7 +58,7 @@ allowed k b h g =
     )
 
 groups_back : (k at v : ℕ) (rest : List ℕ) → (k < 4 → 0 < v) → v < 16 * 128 ^ k →
-    groups k at (encode_in k v ++ rest) ≡ Value v (at + length (encode_in k v))
+    groups k at (encode_in k v ++ rest) ≡ finds v (at + length (encode_in k v))
 groups_back zero at v rest h g = simp (allowed 0 v h (λ e. omega arith), lt-ltb v 128 (omega arith))
 groups_back (suc k) at v rest h g =
     let g' : v < 16 * (128 * 128 ^ k) = rw (pow_step 128 k) at g in
@@ -82,31 +81,33 @@ groups_back (suc k) at v rest h g =
 
 pub numbers_read_back : NumbersReadBack
 numbers_read_back s at v next t h =
-    ap (groups 4 at) t.there ∙ groups_back 4 at v (drop next s) (λ f. omega arith) (omega arith) ∙ ap (Value v) (sym t.end)
+    ap (groups 4 at) t.there ∙ groups_back 4 at v (drop next s) (λ f. omega arith) (omega arith) ∙ ap (finds v) (sym t.end)
 
 -- ---- accepted numbers are encodings
 
 -- what was read, and from which bytes
-abbrev Encoded : ℕ → ℕ → List ℕ → Number → Type 0
-Encoded k at s (Value v next) =
-    (rest : List ℕ) × (s ≡ encode_in k v ++ rest) × (next ≡ at + length (encode_in k v)) × (k < 4 → 0 < v) × (v < 16 * 128 ^ k)
-Encoded k at s (Refused why) = Unit {0}
+abbrev Encoded : ℕ → ℕ → List ℕ → Reads ℕ → Type 0
+Encoded k at s (Ok found) =
+    (rest : List ℕ) × (s ≡ encode_in k found.value ++ rest) × (found.next ≡ at + length (encode_in k found.value)) × (k < 4 → 0 < found.value)
+    × (found.value < 16 * 128 ^ k)
+Encoded k at s (Err why) = Unit {0}
 
-one_byte : (k at b : ℕ) (s : List ℕ) → breaks k b ≡ false → b < 128 → Encoded k at (b ∷ s) (Value b (at + 1))
+one_byte : (k at b : ℕ) (s : List ℕ) → breaks k b ≡ false → b < 128 → Encoded k at (b ∷ s) (finds b (at + 1))
 one_byte zero at b s e h = (s, refl, refl, not_zero 0 b e, last_bound 0 b e h)
 one_byte (suc k) at b s e h =
     let t = lt-ltb b 128 h in
     (s, simp t, simp t, not_zero (suc k) b e, last_bound (suc k) b e h)
 
-more_bytes : (k at b : ℕ) (s : List ℕ) (r : Number) → k < 4 → 128 ≤ b → b < 256 → Encoded k (at + 1) s r → Encoded (suc k) at (b ∷ s) (with_group b r)
-more_bytes k at b s (Value v next) f lo hi (rest, e, n, above, below) =
+more_bytes : (k at b : ℕ) (s : List ℕ) (r : Reads ℕ) → k < 4 → 128 ≤ b → b < 256 → Encoded k (at + 1) s r → Encoded (suc k) at (b ∷ s) (with_group b r)
+more_bytes k at b s (Ok found) f lo hi (rest, e, n, above, below) =
+    let v = found.value in
     let pos : 0 < v = above f in
     let big : 128 ≤ b - 128 + 128 * v = omega arith in
     let low : (b - 128 + 128 * v) % 128 + 128 ≡ b = omega arith in
     let high : (b - 128 + 128 * v) / 128 ≡ v = omega arith in
     let w : encode_in (suc k) (b - 128 + 128 * v) ≡ b ∷ encode_in k v = simp (le-ltb _ _ big, low, high) in
     (rest, rw (w, e), rw (w, n) (omega arith), λ _. omega arith, rw (pow_step 128 k) (omega arith))
-more_bytes k at b s (Refused why) f lo hi h = tt
+more_bytes k at b s (Err why) f lo hi h = tt
 
 groups_encoded : (k at : ℕ) (s : List ℕ) → k ≤ 4 → Bytes s → Encoded k at s (groups k at s)
 groups_encoded k at [] f h = tt
@@ -128,7 +129,7 @@ bytes_behind (suc n) (b ∷ s) h = bytes_behind n s h.1
 
 pub numbers_are_encodings : NumbersAreEncodings
 numbers_are_encodings s at v next h e =
-    let (rest, there, end, above, below) : Encoded 4 at (drop at s) (Value v next) =
+    let (rest, there, end, above, below) : Encoded 4 at (drop at s) (finds v next) =
     subst (Encoded 4 at (drop at s)) e (groups_encoded 4 at (drop at s) (omega arith) (bytes_behind at s h)) in
     let after : drop next s ≡ rest =
     ap (λ (n : ℕ). drop n s) end ∙ sym (drop-drop (length (encode v)) at s) ∙ ap (drop (length (encode v))) there ∙ drop-append_seam (encode v) rest in

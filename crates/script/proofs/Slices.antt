@@ -8,10 +8,8 @@ use native.Mathlib.Omega.{arith}
 use lib.ListN.{get_or}
 use mir.Syntax.{w8}
 use mir.Val.{Fits}
-use Rattle.script.specs.declared.Number.TheVariants.{Value}
 use Rattle.command.specs.declared.Command.{Command}
-use Rattle.script.specs.declared.Decoded.TheVariants.{Command as Found}
-use Rattle.script.specs.Number.{number_at}
+use Rattle.script.specs.Number.{finds, number_at}
 use Rattle.script.specs.Encode.{encode}
 use Rattle.script.specs.Command.{command_at}
 use Rattle.script.specs.Write.{bytes}
@@ -25,8 +23,8 @@ slice_bytes [] h = tt
 slice_bytes (b ∷ s) h = (omega (arith, h 0), slice_bytes s (λ i. h (suc i)))
 
 module _ (s : List ℕ) (h : (i : ℕ) → Fits w8 (get_or s i 0)) (at next : ℕ) where
-  pub slice_number : (v : ℕ) → number_at s at ≡ Value v next → Stands (encode v) s at next × (v ≤ largest)
+  pub slice_number : (v : ℕ) → number_at s at ≡ finds v next → Stands (encode v) s at next × (v ≤ largest)
   slice_number v e = numbers_are_encodings s at v next (slice_bytes s h) e
 
-  pub slice_command : (c : Command) → command_at s at ≡ Found c next → Stands (bytes c) s at next × InRange c
+  pub slice_command : (c : Command) → command_at s at ≡ finds c next → Stands (bytes c) s at next × InRange c
   slice_command c e = commands_are_encodings s at next c (slice_bytes s h) e

@@ -2,10 +2,8 @@
 -- proofs/Commands.antt and proofs/Items.antt, each under its name in small letters.
 -- Assumes nothing.
 use Rattle.std.specs.Prelude.{ℕ, ◌+◌, ◌≤◌, ◌<◌, ◌≡◌, List, [], ◌∷◌, ◌++◌, length, drop}
-use Rattle.script.specs.declared.Number.TheVariants.{Value}
 use Rattle.command.specs.declared.Command.{Command}
-use Rattle.script.specs.declared.Decoded.TheVariants.{Command as Found}
-use Rattle.script.specs.Number.{number_at}
+use Rattle.script.specs.Number.{finds, number_at}
 use Rattle.script.specs.Encode.{encode}
 use Rattle.script.specs.Command.{with_operands, command_at}
 use Rattle.script.specs.Items.{script_items}
@@ -33,17 +31,17 @@ BytesStand = (before bs after : List ℕ) → Stands bs (before ++ (bs ++ after)
 
 -- the bytes of every number read as that number, with its length
 abbrev pub NumbersReadBack : Type 0
-NumbersReadBack = (s : List ℕ) (at v next : ℕ) → Stands (encode v) s at next → v ≤ largest → number_at s at ≡ Value v next
+NumbersReadBack = (s : List ℕ) (at v next : ℕ) → Stands (encode v) s at next → v ≤ largest → number_at s at ≡ finds v next
 
 -- every number that is accepted is the encoding of its value
 abbrev pub NumbersAreEncodings : Type 0
-NumbersAreEncodings = (s : List ℕ) (at v next : ℕ) → Bytes s → number_at s at ≡ Value v next → Stands (encode v) s at next × (v ≤ largest)
+NumbersAreEncodings = (s : List ℕ) (at v next : ℕ) → Bytes s → number_at s at ≡ finds v next → Stands (encode v) s at next × (v ≤ largest)
 
 -- the operands of every command in range read, behind its kind, as that command
 abbrev pub OperandsReadBack : Type 0
 OperandsReadBack =
     (s : List ℕ) (mid next : ℕ) (c : Command) → Stands (encode_all (operands c)) s mid next → InRange c →
-    with_operands s (kind c) mid (operands_of (kind c)) ≡ Found c next
+    with_operands s (kind c) mid (operands_of (kind c)) ≡ finds c next
 
 -- every command that is accepted behind a kind is of that kind and in range, and its operands stand there
 pub record Encodes (k : ℕ) (s : List ℕ) (mid : ℕ) (c : Command) (next : ℕ) : Type 0 where
@@ -53,15 +51,15 @@ pub record Encodes (k : ℕ) (s : List ℕ) (mid : ℕ) (c : Command) (next : �
 
 abbrev pub OperandsAreEncodings : Type 0
 OperandsAreEncodings =
-    (s : List ℕ) (k mid next : ℕ) (c : Command) → Bytes s → with_operands s k mid (operands_of k) ≡ Found c next → Encodes k s mid c next
+    (s : List ℕ) (k mid next : ℕ) (c : Command) → Bytes s → with_operands s k mid (operands_of k) ≡ finds c next → Encodes k s mid c next
 
 -- the bytes of every command in range read as that command, with its length
 abbrev pub CommandsReadBack : Type 0
-CommandsReadBack = (s : List ℕ) (at next : ℕ) (c : Command) → Stands (bytes c) s at next → InRange c → command_at s at ≡ Found c next
+CommandsReadBack = (s : List ℕ) (at next : ℕ) (c : Command) → Stands (bytes c) s at next → InRange c → command_at s at ≡ finds c next
 
 -- every command that is accepted is in range, and its bytes stand there
 abbrev pub CommandsAreEncodings : Type 0
-CommandsAreEncodings = (s : List ℕ) (at next : ℕ) (c : Command) → Bytes s → command_at s at ≡ Found c next → Stands (bytes c) s at next × InRange c
+CommandsAreEncodings = (s : List ℕ) (at next : ℕ) (c : Command) → Bytes s → command_at s at ≡ finds c next → Stands (bytes c) s at next × InRange c
 
 -- the bytes of commands one after the other, the offset of each, and that each is in range
 abbrev pub script : List Command → List ℕ

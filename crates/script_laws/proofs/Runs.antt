@@ -17,9 +17,8 @@ use Rattle.port_laws.specs.Laws.{AcceptedPasses, GrownPasses}
 use Rattle.port_laws.proofs.Laws.{accepted_passes, grown_passes, passing_not_8}
 use Rattle.script.specs.declared.Fault.{Fault}
 use Rattle.script.specs.declared.Fault.TheVariants.{Short, Number, Kind, Operand}
-use Rattle.script.specs.declared.Decoded.{Decoded}
-use Rattle.script.specs.declared.Decoded.TheVariants.{Command as Found, Refused as Refuses}
-use Rattle.script.specs.Number.{fault_number}
+use Rattle.std.proofs.Common.{Ok, Err}
+use Rattle.script.specs.Number.{fault_number, Reads}
 use Rattle.script.specs.Command.{command_at}
 use Rattle.script.specs.Items.{reading, read_at}
 use Rattle.machine.specs.Machine.{Item, item, items_up_to, commands, acts, refuses, Acts, AllAct, left, last, Run, IsItsCommands}
@@ -62,9 +61,9 @@ fault_not_8 Kind e = omega arith
 fault_not_8 Operand e = omega arith
 
 -- reading gives no 8
-read_not_8 : (next : ℕ → List (Item Command)) (at : ℕ) (d : Decoded) → ((n : ℕ) → NoFault 8 (next n)) → NoFault 8 (item next at (reading record_length d))
-read_not_8 next at (Found c n) h = h n
-read_not_8 next at (Refuses why) h = fault_not_8 why
+read_not_8 : (next : ℕ → List (Item Command)) (at : ℕ) (d : Reads Command) → ((n : ℕ) → NoFault 8 (next n)) → NoFault 8 (item next at (reading record_length d))
+read_not_8 next at (Ok found) h = h found.next
+read_not_8 next at (Err why) h = fault_not_8 why
 
 items_not_8 : (k : ℕ) (s : List ℕ) (at : ℕ) → NoFault 8 (items_up_to k (read_at record_length s) (length s) at)
 items_not_8 zero s at = tt

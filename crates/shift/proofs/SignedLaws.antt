@@ -1,19 +1,17 @@
 -- Laws of the receive position: a signed byte and its bits, the tests, the step and the shift that the code makes of it, and the clause of
 -- `sample_at` that its tests select.
 -- Assumes nothing.
-use mathlib.Core.Path.{◌≡◌, refl, sym, ap, ap₂, ◌∙◌, subst}
-use mathlib.Core.Bool.{Bool, true, false, not, cond, ◌&&◌, ◌||◌, true≢false, false≢true}
-use Prim.Native.Nat.{ℕ, zero, suc, ◌+◌, ◌-◌, ◌*◌, ◌%◌, ◌^◌, ◌<◌, ◌≤◌, zero-le}
-use native.Mathlib.Nat.{one-mul, mod-eq_of_lt, lt_trans}
+use mathlib.Core.Path.{◌≡◌, refl, sym, ap, ◌∙◌, subst}
+use mathlib.Core.Bool.{Bool, true, false, cond, ◌&&◌, ◌||◌, true≢false, false≢true}
+use Prim.Native.Nat.{ℕ, zero, suc, ◌+◌, ◌-◌, ◌^◌, ◌<◌, ◌≤◌, zero-le}
 use native.Mathlib.Omega.{arith}
 use lib.Bits.{bit_or}
-use lib.Dec.{T, eqb, ltb, leb, lit<, lit≤, le→leb, ltb→lt}
-use lib.Pow.{pow-lt}
-use lib.IntN.{ℤ, pos, negsuc, ◌+ℤ◌, nat_abs}
-use lib.Signed.{mag, lt_z, le_z, non_neg}
+use lib.Dec.{T, eqb, ltb, lit<, lit≤, le→leb}
+use lib.IntN.{ℤ, pos, negsuc, ◌+ℤ◌}
+use lib.Signed.{mag, lt_z, le_z}
 use mir.Syntax.{w8}
-use mir.Val.{to_z, of_z, Fits, SFits}
-use mir.Facts.{to_z-of_z, to_z_pos}
+use mir.Val.{to_z, of_z}
+use mir.Facts.{to_z-of_z}
 use borrow.Author.Tests.{eq-eqb, ne_eqb, eqb-true, eqb-false, leb-true, ltb-true, lt-ltb}
 use Rattle.frame.specs.declared.Format.{Format}
 use Rattle.frame.specs.Frame.{differ, one_if}
@@ -22,7 +20,7 @@ use Rattle.frame.proofs.Laws.{one_if≤}
 use Rattle.shift.specs.declared.Rx.{Rx}
 use Rattle.shift.specs.declared.Sampled.{Sampled}
 use Rattle.shift.specs.declared.Sampled.TheVariants.{Dropped, Onward, Whole}
-use Rattle.shift.specs.Receiver.{next_position, bit_at, started, stepped, stopped, sample_at, sample, last_bit}
+use Rattle.shift.specs.Receiver.{next_position, bit_at, started, stepped, stopped, sample_at, sample}
 use Rattle.shift.specs.Valid.{position_valid}
 use Rattle.shift.specs.Private.Ready.{Placed, Shiftable, eqZ, falling, starting, in_data, at_parity}
 
@@ -44,21 +42,8 @@ bits_eq (negsuc m) (negsuc n) hz hk = eqb_same (256 - suc m) (256 - suc n) m n (
 pub bits_is : (z k : ℤ) (n : ℕ) → mag z < 128 → mag k < 128 → of_z w8 k ≡ n → eqb (of_z w8 z) n ≡ eqZ z k
 bits_is z k n hz hk e = ap (eqb (of_z w8 z)) (sym e) ∙ bits_eq z k hz hk
 
-pub and_of : (a a' b : Bool) → a ≡ a' → (a && b) ≡ (a' && b)
-and_of a a' b e = ap (λ (x : Bool). x && b) e
-
 pub bits_of : (z : ℤ) → mag z < 128 → to_z w8 (of_z w8 z) ≡ z
 bits_of z h = to_z-of_z {w = w8} (record { sfits = h })
-
-pub at_data : (z : ℤ) (d : ℕ) → mag z < 128 → d ≤ 8 → eqb (of_z w8 z) d ≡ eqZ z (pos d)
-at_data z d hz hd = bits_eq z (pos d) hz (omega arith)
-
-pub below_data : (z : ℤ) (d : ℕ) → mag z < 128 → d ≤ 8 → lt_z (to_z w8 (of_z w8 z)) (to_z w8 d) ≡ lt_z z (pos d)
-below_data z d hz hd = ap₂ lt_z (bits_of z hz) (to_z_pos w8 {n = d} (omega arith))
-
-pub at_seven : (z : ℤ) → mag z < 128 → eqb (of_z w8 z) 7 ≡ last_bit z
-at_seven (pos n) h = refl
-at_seven (negsuc n) h = ne_eqb (256 - suc n) 7 (λ p. omega arith)
 
 -- ---- a position in its place
 bound≤ : (s : Bool) (d k : ℕ) → d ≤ 8 → k ≤ 1 → cond s 7 (d + k) ≤ 9
@@ -73,51 +58,12 @@ place_mag (negsuc zero) f hd e = lit< tt
 place_mag (negsuc (suc zero)) f hd e = lit< tt
 place_mag (negsuc (suc (suc n))) f hd e = absurd (false≢true e)
 
-step_mag : (z : ℤ) → mag z < 10 → mag (next_position z) < 128
-step_mag (pos n) h = omega arith
-step_mag (negsuc zero) h = lit< tt
-step_mag (negsuc (suc n)) h = omega arith
-
 plus_one : (z : ℤ) → z +ℤ pos 1 ≡ next_position z
 plus_one (pos n) = let e : n + 1 ≡ suc n = omega arith in ap pos e
 plus_one (negsuc zero) = refl
 plus_one (negsuc (suc n)) =
     let e : suc (suc n) - 2 ≡ n = omega arith in
     ap (λ (b : Bool). cond b (negsuc (suc (suc n) - 2)) (pos (1 - suc (suc n)))) (lt-ltb 1 (suc (suc n)) (omega arith)) ∙ ap negsuc e
-
-pub next_fits : (z : ℤ) (f : Format) → mag z < 128 → f.«data» ≤ 8 → position_valid z f ≡ true → SFits w8 (to_z w8 (of_z w8 z) +ℤ pos 1)
-next_fits z f hz hd e =
-    record { sfits = subst (λ (x : ℤ). mag x < 128) (sym (plus_one z) ∙ ap (λ (x : ℤ). x +ℤ pos 1) (sym (bits_of z hz))) (step_mag z (place_mag z f hd e)) }
-
-pub next_of : (z : ℤ) (f : Format) → mag z < 128 → f.«data» ≤ 8 → position_valid z f ≡ true → to_z w8 (of_z w8 (to_z w8 (of_z w8 z) +ℤ pos 1)) ≡ next_position z
-next_of z f hz hd e =
-    ap (λ (x : ℤ). to_z w8 (of_z w8 (x +ℤ pos 1))) (bits_of z hz) ∙ ap (λ (x : ℤ). to_z w8 (of_z w8 x)) (plus_one z)
-    ∙ bits_of (next_position z) (step_mag z (place_mag z f hd e))
-
--- a position from zero as a shift
-module _ (z : ℤ) (hz : mag z < 128) (low : T (le_z (pos 0) z)) (high : T (lt_z z (pos 8))) where
-  plain_nonneg : (z : ℤ) → T (le_z (pos 0) z) → T (non_neg z)
-  plain_nonneg (pos n) l = tt
-  plain_nonneg (negsuc n) l = l
-
-  plain_below : (z : ℤ) → T (le_z (pos 0) z) → T (lt_z z (pos 8)) → nat_abs z < 8
-  plain_below (pos n) l h = ltb→lt n 8 h
-  plain_below (negsuc n) l h = absurd l
-
-  plain_bit : (z : ℤ) → T (le_z (pos 0) z) → 2 ^ nat_abs z ≡ bit_at z
-  plain_bit (pos n) l = refl
-  plain_bit (negsuc n) l = absurd l
-
-  pub shift_below : nat_abs (to_z w8 (of_z w8 z)) < 8
-  shift_below = subst (λ (x : ℤ). nat_abs x < 8) (sym (bits_of z hz)) (plain_below z low high)
-
-  pub shift_cast : T (non_neg (to_z w8 (of_z w8 z))) × Fits w8 (nat_abs (to_z w8 (of_z w8 z)))
-  shift_cast = (subst (λ (x : ℤ). T (non_neg x)) (sym (bits_of z hz)) (plain_nonneg z low), record { fits = lt_trans shift_below (lit< tt) })
-
-  pub placed_bit : (v : ℕ) → bit_or v ((1 * 2 ^ nat_abs (to_z w8 (of_z w8 z))) % 256) ≡ bit_or v (bit_at z)
-  placed_bit v =
-      ap (λ (x : ℤ). bit_or v ((1 * 2 ^ nat_abs x) % 256)) (bits_of z hz)
-      ∙ ap (bit_or v) (ap (λ (x : ℕ). x % 256) (one-mul (2 ^ nat_abs z)) ∙ mod-eq_of_lt (pow-lt (plain_below z low high)) ∙ plain_bit z low)
 
 -- ---- where a position lies
 -- a data cell: from zero, and below eight
@@ -135,23 +81,6 @@ pub data_shifts : (r : Rx) → Placed r → falling r ≡ false → starting r �
 unfolding falling starting in_data
 data_shifts r p a b h =
     record { from_zero = from_zero r.position r.format p.place a b; below_eight = below_eight r.position r.format.«data» p.bounded.data≤8 h }
-
--- a bit of a clocked word
-clocked_from : (z : ℤ) (f : Format) → f.synchronous ≡ true → position_valid z f ≡ true → T (le_z (pos 0) z)
-clocked_from (pos j) f s e = le→leb 0 j zero-le
-clocked_from (negsuc zero) f s e = absurd (false≢true (ap not (sym s) ∙ e))
-clocked_from (negsuc (suc zero)) f s e = absurd (false≢true (ap not (sym s) ∙ e))
-clocked_from (negsuc (suc (suc n))) f s e = absurd (false≢true e)
-
-clocked_below : (z : ℤ) (f : Format) → f.synchronous ≡ true → position_valid z f ≡ true → T (lt_z z (pos 8))
-clocked_below (pos j) f s e =
-    let up : j ≤ 7 = leb-true j 7 (ap (λ (b : Bool). leb j (cond b 7 (f.«data» + one_if f.parity))) (sym s) ∙ e) in
-    subst T (sym (lt-ltb j 8 (omega arith))) tt
-clocked_below (negsuc n) f s e = tt
-
-pub clocked_shifts : (r : Rx) → Placed r → r.format.synchronous ≡ true → Shiftable r
-clocked_shifts r p s =
-    record { from_zero = clocked_from r.position r.format s p.place; below_eight = clocked_below r.position r.format s p.place }
 
 -- ---- the clause of `sample_at` that the tests select
 module _ (now : Format) (high : Bool) (half : ℕ) (r : Rx) (out : Sampled) where

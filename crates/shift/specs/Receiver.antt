@@ -1,14 +1,10 @@
 -- A word in the receiver (document 01, "Receiver"; the manual's receive error table): what each sample makes of it.
 -- Assumes nothing.
-use Rattle.std.specs.Prelude.{ℕ, zero, suc, ◌+◌, ◌-◌, ◌/◌, ◌^◌, Bool, false, cond, not, ◌&&◌, ◌||◌, eqb, ltb, ℤ, pos, negsuc}
+use Rattle.std.specs.Prelude.{ℕ, zero, suc, ◌+◌, ◌-◌, ◌/◌, ◌^◌, Bool, false, cond, not, ◌&&◌, ◌||◌, eqb, ltb, ℤ, pos, negsuc, Option, None, Some}
 use Rattle.std.specs.Int.Bits.{bit_or}
 use Rattle.frame.specs.declared.Format.{Format}
 use Rattle.frame.specs.Frame.{differ, one_if}
-use Rattle.shift.specs.declared.Due.{Due}
-use Rattle.shift.specs.declared.Due.TheVariants.{Never, At}
 use Rattle.shift.specs.declared.Rx.{Rx}
-use Rattle.shift.specs.declared.Receiver.{Receiver}
-use Rattle.shift.specs.declared.Receiver.TheVariants.{Idle, Busy}
 use Rattle.shift.specs.declared.Sampled.{Sampled}
 use Rattle.shift.specs.declared.Sampled.TheVariants.{Dropped, Onward, Whole}
 use Rattle.shift.specs.Due.{due_now}
@@ -17,12 +13,12 @@ use Rattle.shift.specs.Due.{due_now}
 -- a new word, which waits for the next falling phase at position -2
 abbrev pub armed : Format → ℕ → Rx
 armed f next =
-    record { format = f; value = 0; position = negsuc (suc zero); parity = false; error = 0; next = At next }
+    record { format = f; value = 0; position = negsuc (suc zero); parity = false; error = 0; next = Some next }
 
 -- the falling phase: the start cell begins in the present format, and is sampled in its middle at position -1
 abbrev pub started : Format → ℕ → Rx → Rx
 started now half r =
-    record { format = now; value = r.value; position = negsuc zero; parity = r.parity; error = r.error; next = At (half + now.half_bit / 2 - 1) }
+    record { format = now; value = r.value; position = negsuc zero; parity = r.parity; error = r.error; next = Some (half + now.half_bit / 2 - 1) }
 
 -- the position after a sample
 abbrev pub next_position : ℤ → ℤ
@@ -38,7 +34,7 @@ bit_at (negsuc j) = 0
 -- on from position z: the next cell is sampled one cell length later
 abbrev pub stepped : ℕ → ℤ → ℕ → Bool → ℕ → Rx → Rx
 stepped half z value parity error r =
-    record { format = r.format; value = value; position = next_position z; parity = parity; error = error; next = At (half + r.format.half_bit) }
+    record { format = r.format; value = value; position = next_position z; parity = parity; error = error; next = Some (half + r.format.half_bit) }
 
 -- the word's errors after the parity cell, which makes the ones among data and parity even, or odd; and after the first stop cell, which is at mark
 abbrev pub parity_error : Bool → Rx → ℕ
@@ -69,7 +65,7 @@ sample now high half r = sample_at r.position now high half r
 
 -- ---- a clocked word: a new one, and a bit of it taken
 abbrev pub clocked_word : Format → Rx
-clocked_word f = record { format = f; value = 0; position = pos 0; parity = false; error = 0; next = Never }
+clocked_word f = record { format = f; value = 0; position = pos 0; parity = false; error = 0; next = None }
 
 abbrev pub bit_taken : Bool → Rx → Rx
 bit_taken high r =
@@ -82,24 +78,24 @@ last_bit (negsuc j) = false
 
 -- ---- the receiver
 -- the half on which it acts next
-abbrev pub rx_next : Receiver → Due
-rx_next Idle = Never
-rx_next (Busy r) = r.next
+abbrev pub rx_next : Option Rx → Option ℕ
+rx_next None = None
+rx_next (Some r) = r.next
 
-abbrev pub rx_clocked : Receiver → Bool
-rx_clocked Idle = false
-rx_clocked (Busy r) = r.format.synchronous
+abbrev pub rx_clocked : Option Rx → Bool
+rx_clocked None = false
+rx_clocked (Some r) = r.format.synchronous
 
 -- a start-stop receiver is due now
-abbrev pub rx_due_on : Receiver → ℕ → Bool
-rx_due_on Idle half = false
-rx_due_on (Busy r) half = not r.format.synchronous && due_now r.next half
+abbrev pub rx_due_on : Option Rx → ℕ → Bool
+rx_due_on None half = false
+rx_due_on (Some r) half = not r.format.synchronous && due_now r.next half
 
 -- ---- a completion (document 01): the half that samples the first stop cell
 abbrev pub at_stop : ℤ → Rx → Bool
 at_stop (negsuc n) r = false
 at_stop (pos j) r = eqb j (r.format.«data» + one_if r.format.parity)
 
-abbrev pub completing_on : Receiver → ℕ → Bool
-completing_on Idle half = false
-completing_on (Busy r) half = due_now r.next half && at_stop r.position r
+abbrev pub completing_on : Option Rx → ℕ → Bool
+completing_on None half = false
+completing_on (Some r) half = due_now r.next half && at_stop r.position r

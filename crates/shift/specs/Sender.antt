@@ -1,30 +1,21 @@
 -- A word to be sent, and what the sender's states say of themselves (document 01, "Sender").
 -- Assumes nothing.
-use Rattle.std.specs.Prelude.{ℕ, ◌^◌, Bool, true, false}
+use Rattle.std.specs.Prelude.{ℕ, ◌^◌, Bool, false, is_none, Option, None, Some}
 use Rattle.frame.specs.Frame.{has}
-use Rattle.shift.specs.declared.Due.{Due}
-use Rattle.shift.specs.declared.Due.TheVariants.{Never, At}
-use Rattle.shift.specs.declared.Holding.{Holding}
-use Rattle.shift.specs.declared.Holding.TheVariants.{Empty, Byte}
 use Rattle.shift.specs.declared.Character.{Character}
 use Rattle.shift.specs.declared.Tx.{Tx}
 use Rattle.shift.specs.declared.Tx.TheVariants.{Off, Blocked, Mark, Start, Data, Tail}
-use Rattle.shift.specs.Due.{absent}
 
 -- the level of a cell of a word
 abbrev pub level : Character → ℕ → Bool
 level ch cell = has ch.word (2 ^ cell)
 
-abbrev pub holds : Holding → Bool
-holds Empty = false
-holds (Byte v) = true
-
 -- the half on which the sender acts next
-abbrev pub tx_next : Tx → Due
-tx_next Off = Never
-tx_next (Blocked ch) = Never
-tx_next (Mark next) = At next
-tx_next (Start ch next) = At next
+abbrev pub tx_next : Tx → Option ℕ
+tx_next Off = None
+tx_next (Blocked ch) = None
+tx_next (Mark next) = Some next
+tx_next (Start ch next) = Some next
 tx_next (Data ch cell next) = next
 tx_next (Tail l next) = next
 
@@ -34,5 +25,5 @@ tx_clocked Off = false
 tx_clocked (Blocked ch) = false
 tx_clocked (Mark next) = false
 tx_clocked (Start ch next) = false
-tx_clocked (Data ch cell next) = absent next
-tx_clocked (Tail l next) = absent next
+tx_clocked (Data ch cell next) = is_none next
+tx_clocked (Tail l next) = is_none next

@@ -1,40 +1,34 @@
 -- The field test of due halves, words and formats, clause by clause (document 01).
 -- Assumes nothing.
-use Rattle.std.specs.Prelude.{ℕ, zero, suc, ◌+◌, Bool, true, false, cond, not, ◌&&◌, ◌||◌, eqb, ltb, leb, ℤ, pos, negsuc}
+use Rattle.std.specs.Prelude.{ℕ, zero, suc, ◌+◌, Bool, true, false, cond, not, ◌&&◌, ◌||◌, eqb, ltb, leb, ℤ, pos, negsuc, Option, None, Some}
 use Rattle.frame.specs.declared.Format.{Format}
 use Rattle.frame.specs.Frame.{one_if, stop, format_valid, word_valid}
-use Rattle.shift.specs.declared.Due.{Due}
-use Rattle.shift.specs.declared.Due.TheVariants.{Never, At}
 use Rattle.shift.specs.declared.Character.{Character}
-use Rattle.shift.specs.declared.Loaded.{Loaded}
-use Rattle.shift.specs.declared.Loaded.TheVariants.{Nothing, Next}
 use Rattle.shift.specs.declared.Tx.{Tx}
 use Rattle.shift.specs.declared.Tx.TheVariants.{Off, Blocked, Mark, Start, Data, Tail}
 use Rattle.shift.specs.declared.Rx.{Rx}
-use Rattle.shift.specs.declared.Receiver.{Receiver}
-use Rattle.shift.specs.declared.Receiver.TheVariants.{Idle, Busy}
 
 -- "each due half 1 to 448 above the half count": here one that is present
 abbrev pub due_at : ℕ → ℕ → Bool
 due_at half n = ltb half n && leb n (half + 448)
 
 -- present or not
-abbrev pub due_either : Due → ℕ → Bool
-due_either Never half = true
-due_either (At n) half = due_at half n
+abbrev pub due_either : Option ℕ → ℕ → Bool
+due_either None half = true
+due_either (Some n) half = due_at half n
 
 -- present exactly for a start-stop word
-abbrev pub due_by : Due → Bool → ℕ → Bool
-due_by Never synchronous half = synchronous
-due_by (At n) synchronous half = not synchronous && due_at half n
+abbrev pub due_by : Option ℕ → Bool → ℕ → Bool
+due_by None synchronous half = synchronous
+due_by (Some n) synchronous half = not synchronous && due_at half n
 
 -- "formats and words that some SMR, SEMR and value give"
 unfoldable pub character_valid : Character → Bool
 character_valid ch = format_valid ch.format && word_valid ch.format ch.word
 
-abbrev pub loaded_valid : Loaded → Bool
-loaded_valid Nothing = true
-loaded_valid (Next ch) = character_valid ch
+abbrev pub loaded_valid : Option Character → Bool
+loaded_valid None = true
+loaded_valid (Some ch) = character_valid ch
 
 -- "a transmit cell below the stop cell (clocked: at most 7)"
 abbrev pub cell_valid : Format → ℕ → Bool
@@ -63,6 +57,6 @@ word_in_place r half =
     format_valid r.format && (position_valid r.position r.format
     && ((eqb r.error 0 || eqb r.error 8) && due_by r.next r.format.synchronous half))
 
-abbrev pub rx_valid : Receiver → ℕ → Bool
-rx_valid Idle half = true
-rx_valid (Busy r) half = word_in_place r half
+abbrev pub rx_valid : Option Rx → ℕ → Bool
+rx_valid None half = true
+rx_valid (Some r) half = word_in_place r half

@@ -1,54 +1,32 @@
-// Text put into a lent buffer: bytes, numbers in decimal, hexadecimal digits. Every program's text is made of these.
-// `put_text` and `put_number` ask for room: their callers make texts of known greatest length in buffers of their own.
+// Text of a fixed greatest length: numbers in decimal, hexadecimal digits. Every program's text is made of these.
+// What is appended is `push_str` of `ArrayString`, which asks for room; a caller knows the greatest length of its texts.
 #![tactic(auto)]
 
-ghost use Rattle.std.specs.Prelude.{◌≡◌, ◌+◌, ◌≤◌, ◌<◌, ◌*◌, ◌^◌, length};
-ghost use Rattle.store.specs.Store.{Stored};
-ghost use Rattle.text.specs.Decimal.{digits, decimal};
+ghost use Rattle.std.specs.Prelude.{◌≡◌, ◌+◌, ◌≤◌, ◌<◌, ◌++◌};
+ghost use Rattle.arrayvec.specs.ArrayString.{array_string_len};
+ghost use Rattle.text.specs.Decimal.{decimal};
 ghost use Rattle.text.specs.Text.{hex_digit};
 
+use arrayvec::ArrayString;
+
 // A hexadecimal digit; `?` above 15.
-pub fn hex_digit(n: u8) -> u8
-    ensures { result ≡ hex_digit n }
+pub fn hex_digit(n: u8) -> char
+    ensures value { result ≡ hex_digit n }
+    ensures ascii { result < 128 }
 {
-    if n < 10 {
-        48 + n
-    } else if n < 16 {
-        55 + n
-    } else {
-        63
+    match char::from_digit(n as u32, 16) {
+        Some(digit) => digit.to_ascii_uppercase(),
+        None => '?',
     }
 }
 
-// Writes a text at an offset, and gives the offset after it.
-pub fn put_text(buf: &mut [u8], at: usize, text: &[u8]) -> usize
-    requires { at + length text.now ≤ length buf.old }
-    ensures { Stored at text.now buf.old result buf.new }
+// Appends a number in decimal: at most 20 digits. (`write!` appends it too, but no clause says when that succeeds, and this always does.)
+#[tactic(auto, using(crate::proofs::Laws::written))]
+pub fn push_number<const N: usize>(out: &mut ArrayString<N>, v: u64)
+    requires { array_string_len out.old + 20 ≤ N }
+    ensures number { out.new.bytes ≡ out.old.bytes ++ decimal v }
+    ensures short { array_string_len out.new ≤ array_string_len out.old + 20 }
 {
-    let end = at + text.len();
-    buf[at..end].copy_from_slice(text);
-    end
-}
-
-// Writes a number in decimal at an offset, in at most `more` digits after the first, and gives the offset after it.
-fn put_decimal(buf: &mut [u8], at: usize, v: u64, more: u32) -> usize
-    requires { (v < 10 * 10 ^ more) × (at + length (digits more v) ≤ length buf.old) }
-    ensures { Stored at (digits more v) buf.old result buf.new }
-{
-    if v < 10 {
-        buf[at] = (48 + v) as u8;
-        return at + 1;
-    }
-    let last = put_decimal(buf, at, v / 10, more - 1);
-    buf[last] = (48 + v % 10) as u8;
-    last + 1
-}
-
-// Writes a number in decimal at an offset, and gives the offset after it: at most 20 digits.
-pub fn put_number(buf: &mut [u8], at: usize, v: u64) -> usize
-    requires { at + 20 ≤ length buf.old }
-    ensures stored { Stored at (decimal v) buf.old result buf.new }
-    ensures short { result ≤ at + 20 }
-{
-    put_decimal(buf, at, v, 19)
+    let mut digits = itoa::Buffer::new();
+    out.push_str(digits.format(v));
 }

@@ -1,18 +1,23 @@
-use Rattle.std.proofs.Common.{refl, rules}
-use Rattle.capi.proofs.Fits.{fits_on, fits_not, fits_end, fits_short}
+use Rattle.std.proofs.Common.{rules, sym, ◌∙◌}
+use Rattle.capi.specs.State.{port_max, fits}
+use Rattle.capi.proofs.Fits.{fits_short, fits_on, fits_not, fits_end, none_left}
 use Rattle.capi.proofs.is_state.Goals as goal
 
 pub returns-then-s-ne-STATE : goal.returns-then-s-ne-STATE
-returns-then-s-ne-STATE c = search (fits_short, rules)
+returns-then-s-ne-STATE c = fits_short port_max c.args.s.now c.if-s-ne-STATE.true
 
-pub loop-i-init : goal.loop-i-init
-loop-i-init c = (search rules, search rules, refl)
+pub loop-n-init : goal.loop-n-init
+unfolding fits
+loop-n-init c = (search rules, search rules)
 
-pub returns-then-s-i : goal.returns-then-s-i
-returns-then-s-i c = search (fits_not, rules)
+pub returns-then-n-most : goal.returns-then-n-most
+returns-then-n-most c =
+    let next = c.in-Some.ensures.steps in fits_not _ _ _ _ _ _ _ c.loop-n.invariant.0 next.1 next.0 c.if-n-most.true
 
-pub loop-i-preserved : goal.loop-i-preserved
-loop-i-preserved c = (search rules, search rules, search (fits_on, rules))
+pub loop-n-preserved : goal.loop-n-preserved
+loop-n-preserved c =
+    let next = c.in-Some.ensures.steps in (fits_on _ _ _ _ _ _ _ c.loop-n.invariant.0 next.1 next.0 c.if-n-most.false, search rules)
 
 pub returns : goal.returns
-returns c = search (fits_end, rules)
+returns c =
+    fits_end _ _ c.loop-n.invariant.1 (none_left _ _ _ _ c.loop-n.invariant.1 c.in-None.ensures.steps) ∙ sym c.loop-n.invariant.0

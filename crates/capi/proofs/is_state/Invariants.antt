@@ -1,10 +1,9 @@
--- The numbers passed fit, so that the rest decides. The measure is how many are left.
-use Rattle.std.proofs.Common.{◌≡◌, ◌≤◌, ◌-◌, length, drop}
+-- What is left decides, number by number.
+use Rattle.std.proofs.Common.{◌≡◌, length}
 use Rattle.capi.specs.State.{fits, port_max}
 use Rattle.capi.proofs.is_state.Given as goal
 
-abbrev pub invariant-loop-i : goal.invariant-loop-i
-invariant-loop-i l = (l.i ≤ 53) × (length l.s ≡ length port_max) × (fits port_max l.s ≡ fits (drop l.i port_max) (drop l.i l.s))
-
-abbrev pub decreases-loop-i : goal.decreases-loop-i
-decreases-loop-i l = 53 - l.i
+abbrev pub invariant-loop-n : goal.invariant-loop-n
+invariant-loop-n l =
+    let left = l.n-iterator in
+    (fits port_max l.s ≡ fits left.b.rest.now left.a.rest.now) × (length left.a.rest.now ≡ length left.b.rest.now)

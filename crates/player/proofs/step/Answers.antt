@@ -1,26 +1,19 @@
-use Rattle.std.proofs.Common.{sym, ◌∙◌}
-use Rattle.player.proofs.Laws.{step_full, step_fault, step_refused, step_onward}
+use Rattle.std.proofs.Common.{sym}
+use Rattle.std.proofs.lemmas.Result.{err_from_is_err_and}
+use Rattle.player.proofs.Laws.{step_refused, step_onward}
 use Rattle.player.proofs.step.Goals as goal
 
-pub returns-then-log-lt-RECORD : goal.returns-then-log-lt-RECORD
-returns-then-log-lt-RECORD c =
-    let a = c.args in step_full a.port a.script.now a.at a.log.now c.if-log-lt-RECORD.true
-
-pub returns-in-Refused : goal.returns-in-Refused
-returns-in-Refused c =
+pub returns-in_err-called-clause-turn : goal.returns-in_err-called-clause-turn
+returns-in_err-called-clause-turn c =
     let a = c.args in
-    step_fault a.port a.script.now a.at a.log.now _ c.if-log-lt-RECORD.false
-    (sym c.read_command.ensures ∙ c.in-Refused.is)
+    let p = err_from_is_err_and c.from_residual-in_err-called.result c.from_residual-in_err-called.ensures.1 in
+    rw (p.1, p.2)
+    (step_refused a.port.now.port a.script.now a.at a.log.now _ _ _ a.port.now.passed c.if-log-lt-RECORD.false
+    (sym c.in_ok-command.ensures) c.in_err-called.ensures)
 
-pub returns-in-Refused-outcome : goal.returns-in-Refused-outcome
-returns-in-Refused-outcome c =
+pub returns-clause-turn : goal.returns-clause-turn
+returns-clause-turn c =
     let a = c.args in
-    step_refused a.port a.script.now a.at a.log.now _ _ _ _ c.call-called.result c.requires c.if-log-lt-RECORD.false
-    (sym c.read_command.ensures ∙ c.in-Command.is) c.call-called.ensures c.in-Refused-outcome.is
-
-pub returns-in-Done : goal.returns-in-Done
-returns-in-Done c =
-    let a = c.args in
-    step_onward a.port a.script.now a.at a.log.now _ _ _ c.call-called.result _ c.requires c.if-log-lt-RECORD.false
-    (sym c.read_command.ensures ∙ c.in-Command.is) c.call-called.ensures c.in-Done.is
+    step_onward a.port.now.port a.script.now a.at a.log.now _ _ _ _ a.port.now.passed c.if-log-lt-RECORD.false
+    (sym c.in_ok-command.ensures) c.in_ok-called.ensures
     c.write_record.ensures

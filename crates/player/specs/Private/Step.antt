@@ -1,18 +1,17 @@
 -- One command of a run as the player's loop takes it (machine's Step.antt), in the code's terms. No public contract cites this file.
 -- Assumes nothing.
-use Rattle.std.specs.Prelude.{ℕ, List}
+use Rattle.std.specs.Prelude.{ℕ, List, Result, Ok, Err}
 use Rattle.port.specs.declared.Port.{Port}
 use Rattle.machine.specs.Machine.{Run, play_items}
 use Rattle.machine.specs.Private.Step.{Turn, onward, stopped, step}
 use Rattle.script.specs.Items.{read_at}
-use Rattle.player.specs.declared.Stepped.{Stepped}
-use Rattle.player.specs.declared.Stepped.TheVariants.{Onward, Stopped}
+use Rattle.player.specs.declared.Reason.{Reason}
 use Rattle.player.specs.Play.{record_length, room, items, act, reason_number}
 
--- a step's answer, and the log after it
-abbrev pub stepped : Stepped → List ℕ → Turn Port
-stepped (Onward q next) log = onward q next record_length log
-stepped (Stopped reason) log = stopped (reason_number reason) log
+-- a step's answer, and the port and the log after it
+abbrev pub stepped : Result ℕ Reason → Port → List ℕ → Turn Port
+stepped (Ok next) p log = onward p next record_length log
+stepped (Err reason) p log = stopped (reason_number reason) log
 
 unfoldable pub port_step : Port → List ℕ → ℕ → List ℕ → Turn Port
 port_step p s at log = step room act (read_at record_length s) p at log

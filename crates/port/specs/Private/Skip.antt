@@ -2,15 +2,12 @@
 -- nothing happens are skipped (sci.rs: `deadline` and `step_to`). No public contract cites this file; proofs/Skip.antt proves that it makes of a port what
 -- the halves of Half.antt make of it one by one.
 -- Assumes nothing.
-use Rattle.std.specs.Prelude.{◌≡◌, ℕ, zero, suc, ◌+◌, ◌%◌, Bool, true, false, cond, not, ◌&&◌, ◌==◌, nat_lt}
+use Rattle.std.specs.Prelude.{◌≡◌, ℕ, zero, suc, ◌+◌, ◌%◌, Bool, true, false, cond, not, ◌&&◌, ◌==◌, nat_lt, Option, None, Some, is_none, is_some}
 use Rattle.frame.specs.Frame.{differ}
-use Rattle.shift.specs.declared.Receiver.{Receiver}
-use Rattle.shift.specs.declared.Receiver.TheVariants.{Idle, Busy}
-use Rattle.shift.specs.declared.Due.TheVariants.{Never}
-use Rattle.shift.specs.Due.{absent, due_now, within}
+use Rattle.shift.specs.Due.{due_now, within}
 use Rattle.shift.specs.declared.Tx.{Tx}
 use Rattle.shift.specs.declared.Tx.TheVariants.{Off, Blocked, Mark, Start, Data, Tail}
-use Rattle.shift.specs.Sender.{holds, tx_next}
+use Rattle.shift.specs.Sender.{tx_next}
 use Rattle.shift.specs.Receiver.{rx_next}
 use Rattle.port.specs.declared.Port.{Port}
 use Rattle.port.specs.Fields.{with_half, with_high, with_edge}
@@ -18,11 +15,12 @@ use Rattle.port.specs.Baud.{external, counted}
 use Rattle.port.specs.Receiver.{arms}
 use Rattle.port.specs.Clocked.{sync_needed, with_clock, refresh_sync_clock, sync_edge}
 use Rattle.port.specs.Half.{process_basic, clocked_edge, halves}
+use Rattle.shift.specs.declared.Rx.{Rx}
 
 -- a word begins at the next half, whatever is due
-abbrev pub arms_on : Receiver → Port → Bool
-arms_on Idle p = arms p
-arms_on (Busy r) p = false
+abbrev pub arms_on : Option Rx → Port → Bool
+arms_on None p = arms p
+arms_on (Some r) p = false
 
 -- the basic work has nothing to do at this half
 unfoldable pub nothing_due : Port → Bool
@@ -30,7 +28,7 @@ nothing_due p = not (due_now (tx_next p.tx) p.half) && (not (due_now (rx_next p.
 
 -- the sender may begin a word: a byte is held, or a word is blocked
 abbrev pub starts_on : Tx → Port → Bool
-starts_on Off p = holds p.holding
+starts_on Off p = is_some p.holding
 starts_on (Blocked ch) p = true
 starts_on (Mark next) p = false
 starts_on (Start ch next) p = false
@@ -39,7 +37,7 @@ starts_on (Tail l next) p = false
 
 -- on the internal clock, the clock of clocked form is as `refresh_sync_clock` leaves it
 unfoldable pub clock_fresh : Port → Bool
-clock_fresh p = cond (sync_needed p) (not (absent p.sync_next)) (absent p.sync_next && p.sck)
+clock_fresh p = cond (sync_needed p) (not (is_none p.sync_next)) (is_none p.sync_next && p.sck)
 
 -- the halves up to the next one that may do more than count, at most left: 1 if a word begins or the clock is to be planned, else up to what is due first
 unfoldable pub deadline : ℕ → Port → ℕ
@@ -59,25 +57,27 @@ idle_for n p =
     not (arms_on p.rx p) && (clock_fresh p
     && (nat_lt n (within (tx_next p.tx) p.half (n + 1)) && (nat_lt n (within (rx_next p.rx) p.half (n + 1)) && nat_lt n (within p.sync_next p.half (n + 1)))))
 
--- ---- an edge of the basic clock, counted: a half of the internal one, or with the flag `pin` an edge of the clock pin to a level
+-- ---- an edge of the basic clock, counted: a half of the internal one, or an edge of the clock pin to a level, `pin`
 -- the port's own clock toggles; an edge of the pin leaves it as it is
-abbrev pub toggled : Bool → Port → Port
-toggled pin p = cond pin p (with_clock p Never (not p.sck))
+abbrev pub toggled : Option Bool → Port → Port
+toggled None p = with_clock p None (not p.sck)
+toggled (Some level) p = p
 
 -- the edge of clocked form's clock that comes with it, if one does: the pin's, or the port's own at its due half
-abbrev pub edge_of : Bool → Bool → Port → Port
-edge_of pin level p = cond pin (sync_edge level p) (clocked_edge p)
+abbrev pub edge_of : Option Bool → Port → Port
+edge_of None p = clocked_edge p
+edge_of (Some level) p = sync_edge level p
 
 -- all its work
-abbrev pub edge_work : Bool → Bool → Port → Port
-edge_work pin level p = refresh_sync_clock (edge_of pin level (process_basic p))
+abbrev pub edge_work : Option Bool → Port → Port
+edge_work pin p = refresh_sync_clock (edge_of pin (process_basic p))
 
 -- one edge of the pin, or any number of the internal clock's
-abbrev pub ClockGives : Bool → ℕ → Port → Type 0
-ClockGives true n p = n ≡ 1
-ClockGives false n p = external p ≡ false
+abbrev pub ClockGives : Option Bool → ℕ → Port → Type 0
+ClockGives None n p = external p ≡ false
+ClockGives (Some level) n p = n ≡ 1
 
-abbrev pub edges : Bool → Bool → ℕ → Port → Port
-edges true level zero p = p
-edges true level (suc n) p = edge_work true level (counted p)
-edges false level n p = halves n p
+abbrev pub edges : Option Bool → ℕ → Port → Port
+edges None n p = halves n p
+edges (Some level) zero p = p
+edges (Some level) (suc n) p = edge_work (Some level) (counted p)

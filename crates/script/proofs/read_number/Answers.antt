@@ -1,33 +1,22 @@
 use Rattle.std.proofs.Common.{arith}
-use Rattle.script.proofs.Laws.{last_fits, read_group, read_on}
+use Rattle.script.proofs.Laws.{read_group, read_on}
 use Rattle.script.proofs.read_number.Goals as goal
-
-pub overflow_mul-result : goal.overflow_mul-result
-overflow_mul-result c =
-    let fits = last_fits _ _ _ _ _ _ c.loop-i.invariant c.loop-i-test.true _ c.breaks.ensures c.if-breaks.false c.if-b-lt128.true in
-    omega (arith, fits)
-
-pub overflow_add-result : goal.overflow_add-result
-overflow_add-result c =
-    let fits = last_fits _ _ _ _ _ _ c.loop-i.invariant c.loop-i-test.true _ c.breaks.ensures c.if-breaks.false c.if-b-lt128.true in
-    omega (arith, fits)
 
 pub overflow_mul-value : goal.overflow_mul-value
 overflow_mul-value c =
-    let g = read_group _ _ _ _ _ _ c.loop-i.invariant c.loop-i-test.true _ c.breaks.ensures c.if-breaks.false c.if-b-lt128.false (omega (arith, c.type_inv.s c.loop-i.i)) in
+    let g = read_group _ _ _ _ _ _ c.loop-i.invariant c.loop-i-test.true _ c.breaks.ensures c.if-breaks.false c.if-b-lt128.false c.type_inv.s in
     omega (arith, g.below, g.scaled)
 
 pub overflow_add-value : goal.overflow_add-value
 overflow_add-value c =
-    let g = read_group _ _ _ _ _ _ c.loop-i.invariant c.loop-i-test.true _ c.breaks.ensures c.if-breaks.false c.if-b-lt128.false (omega (arith, c.type_inv.s c.loop-i.i)) in
+    let g = read_group _ _ _ _ _ _ c.loop-i.invariant c.loop-i-test.true _ c.breaks.ensures c.if-breaks.false c.if-b-lt128.false c.type_inv.s in
     omega (arith, g.below, g.scaled)
 
 pub overflow_mul-scale : goal.overflow_mul-scale
 overflow_mul-scale c =
-    let g = read_group _ _ _ _ _ _ c.loop-i.invariant c.loop-i-test.true _ c.breaks.ensures c.if-breaks.false c.if-b-lt128.false (omega (arith, c.type_inv.s c.loop-i.i)) in
+    let g = read_group _ _ _ _ _ _ c.loop-i.invariant c.loop-i-test.true _ c.breaks.ensures c.if-breaks.false c.if-b-lt128.false c.type_inv.s in
     omega (arith, g.scaled)
 
 pub loop-i-preserved : goal.loop-i-preserved
 loop-i-preserved c =
-    read_on _ _ _ _ _ _ c.loop-i.invariant c.loop-i-test.true _ c.breaks.ensures c.if-breaks.false c.if-b-lt128.false
-    (omega (arith, c.type_inv.s c.loop-i.i))
+    read_on _ _ _ _ _ _ c.loop-i.invariant c.loop-i-test.true _ c.breaks.ensures c.if-breaks.false c.if-b-lt128.false c.type_inv.s

@@ -1,19 +1,14 @@
 -- What the port's private steps ask of words, formats and cells, so that no sum wraps and no shift is too wide. Also the tests on a receive position that
 -- the code makes, as Bools.
 -- Assumes nothing.
-use Rattle.std.specs.Prelude.{ℕ, ◌≤◌, ◌<◌, Bool, true, false, ◌&&◌, ◌≡◌, T, eqb, ℤ, pos, negsuc}
+use Rattle.std.specs.Prelude.{ℕ, ◌≤◌, ◌<◌, Bool, true, false, ◌&&◌, ◌≡◌, T, eqb, ℤ, pos, negsuc, Option, None, Some}
 use Rattle.std.specs.Int.Signed.{lt_z, le_z}
 use Rattle.frame.specs.declared.Format.{Format}
 use Rattle.frame.specs.Frame.{stop}
-use Rattle.shift.specs.declared.Due.{Due}
-use Rattle.shift.specs.declared.Due.TheVariants.{Never, At}
-use Rattle.shift.specs.declared.Loaded.{Loaded}
-use Rattle.shift.specs.declared.Loaded.TheVariants.{Nothing, Next}
+use Rattle.shift.specs.declared.Character.{Character}
 use Rattle.shift.specs.declared.Tx.{Tx}
 use Rattle.shift.specs.declared.Tx.TheVariants.{Off, Blocked, Mark, Start, Data, Tail}
 use Rattle.shift.specs.declared.Rx.{Rx}
-use Rattle.shift.specs.declared.Receiver.{Receiver}
-use Rattle.shift.specs.declared.Receiver.TheVariants.{Idle, Busy}
 use Rattle.shift.specs.Valid.{position_valid}
 
 -- a format's lengths
@@ -25,9 +20,9 @@ pub record Bounded (f : Format) : Type 0 where
   pub half≥16 : 16 ≤ f.half_bit
 
 -- only a start-stop word has a due half
-abbrev pub Plain : Due → Bool → Type 0
-Plain Never synchronous = Unit
-Plain (At n) synchronous = synchronous ≡ false
+abbrev pub Plain : Option ℕ → Bool → Type 0
+Plain None synchronous = Unit
+Plain (Some n) synchronous = synchronous ≡ false
 
 -- a word in the receiver: -2 to data bits plus parity, or 0 to 7 with clocked form
 pub record Placed (r : Rx) : Type 0 where
@@ -40,18 +35,18 @@ pub record Shiftable (r : Rx) : Type 0 where
   pub from_zero : T (le_z (pos 0) r.position)
   pub below_eight : T (lt_z r.position (pos 8))
 
-abbrev pub PlacedIn : Receiver → Type 0
-PlacedIn Idle = Unit
-PlacedIn (Busy r) = Placed r
+abbrev pub PlacedIn : Option Rx → Type 0
+PlacedIn None = Unit
+PlacedIn (Some r) = Placed r
 
-abbrev pub LoadedBounded : Loaded → Type 0
-LoadedBounded Nothing = Unit
-LoadedBounded (Next ch) = Bounded ch.format
+abbrev pub LoadedBounded : Option Character → Type 0
+LoadedBounded None = Unit
+LoadedBounded (Some ch) = Bounded ch.format
 
 -- a cell of a word that is being sent: with a due half a start-stop word's, below its stop cell; with none a clocked one's
-abbrev pub Below : Due → Format → ℕ → Type 0
-Below Never f cell = cell ≤ 7
-Below (At n) f cell = cell < stop f
+abbrev pub Below : Option ℕ → Format → ℕ → Type 0
+Below None f cell = cell ≤ 7
+Below (Some n) f cell = cell < stop f
 
 abbrev pub Sendable : Tx → Type 0
 Sendable Off = Unit

@@ -13,7 +13,7 @@ counted_by-requires c =
 pub advance-port-requires : goal.advance-port-requires
 advance-port-requires c =
     let v = c.loop-left in
-    counted_goes c.args.pin c.args.level v.port c.counted_by.result v.port v.left c.deadline-k.result (omega arith) v.invariant.1 c.deadline-k.ensures c.counted_by.ensures
+    counted_goes c.args.pin v.port c.counted_by.result v.port v.left c.deadline-k.result (omega arith) v.invariant.1 c.deadline-k.ensures c.counted_by.ensures
 
 pub overflow_sub-left : goal.overflow_sub-left
 overflow_sub-left c = (deadline_bounds c.loop-left.port c.loop-left.left c.deadline-k.result (omega arith) c.deadline-k.ensures).1
@@ -29,9 +29,9 @@ loop-left-preserved c =
     let v = c.loop-left in
     let k = c.deadline-k in
     let q = c.counted_by in (
-      edges_on a.pin a.level c.advance-port.result q.result v.port v.left k.result (omega arith) v.invariant.1 k.ensures q.ensures a.n a.self c.advance-port.ensures v.invariant.0,
-      goes_on a.pin a.level c.advance-port.result q.result v.port v.left k.result (omega arith) v.invariant.1 k.ensures q.ensures c.advance-port.ensures,
+      edges_on a.pin c.advance-port.result q.result v.port v.left k.result (omega arith) v.invariant.1 k.ensures q.ensures a.n a.self c.advance-port.ensures v.invariant.0,
+      goes_on a.pin c.advance-port.result q.result v.port v.left k.result (omega arith) v.invariant.1 k.ensures q.ensures c.advance-port.ensures,
     )
 
 pub returns : goal.returns
-returns c = edges_none c.args.pin c.args.level c.loop-left.left c.loop-left.port (omega arith) ∙ c.loop-left.invariant.0
+returns c = edges_none c.args.pin c.loop-left.left c.loop-left.port (omega arith) ∙ c.loop-left.invariant.0

@@ -1,0 +1,7 @@
+use Rattle.port.proofs.Keep.{stored_ready, connect_ready}
+use Rattle.port.proofs.Port.written.Goals as goal
+
+pub after_store-requires : goal.after_store-requires
+after_store-requires c =
+    connect_ready c.connect.result c.stored.result c.external-external.result c.connect.ensures
+    (stored_ready c.stored.result c.args.self c.args.a c.args.v c.stored.ensures c.requires)
