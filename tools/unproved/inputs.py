@@ -159,7 +159,7 @@ def arguments(r, form):
         given["n"] = r.choice((0, 1, 2, r.randrange(14)))
     if form in ("write_command", "Command::kind"):
         given["kind"] = r.randrange(1, 8)
-    if form in ("Kind::operands", "u8::from(Fault)", "u8::from(Refusal)"):
+    if form in ("command_of", "Kind::operands", "u8::from(Fault)", "u8::from(Refusal)"):
         given[names[0]] = r.randrange(10)
     if form.startswith("read"):
         given["at"] = r.randrange(4)

@@ -72,6 +72,10 @@ FUNCTIONS = {
     "u8::from(Refusal)": (37, ("refusal",), ("number",)),
     "level_number": (38, ("driven", "high"), ("level",)),
     "read_full": (39, ("length", "piece"), ("bytes",)),
+    "command_of": (40, ("kind", "a", "b"), ("kind", "a", "b")),
+    "rx_next": (41, ("tag", *RX), DUE),
+    "rx_synchronous": (42, ("tag", *RX), ("clocked",)),
+    "rx_valid": (43, ("tag", *RX, "half"), ("valid",)),
 }
 OPERANDS = {1: 1, 2: 2, 3: 1, 4: 1, 5: 2, 6: 1}
 LOG = 240

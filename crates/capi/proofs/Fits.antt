@@ -1,18 +1,19 @@
 -- What a list that fits its places' greatest numbers gives: how long it is, how large each number is, and that each part of it fits in turn.
 -- Assumes nothing.
+use Rattle.std.specs.Prelude.{Option, None, Some, unwrap_or}
+use Rattle.std.specs.List.{list_all, zip}
 use mathlib.Core.Path.{◌≡◌, refl, sym, ap, ap₂, ◌∙◌, subst}
-use mathlib.Core.Logic.{◌⊎◌, inl, inr}
-use mathlib.Core.Bool.{Bool, true, false, ◌&&◌, false≢true}
+use mathlib.Core.Bool.{Bool, true, false, cond, ◌&&◌, false≢true}
 use mathlib.Core.List.{List, [], ◌∷◌}
 use Prim.Native.Nat.{ℕ, zero, suc, ◌<◌, ◌≤◌, zero-le}
 use native.Mathlib.Omega.{arith}
-use lib.Dec.{leb, ltb}
+use lib.Dec.{eqb, leb, ltb}
 use lib.ListN.{length, take, drop, get_or}
 use mir.Syntax.{w8, w16, w32}
 use mir.Val.{Fits}
-use borrow.Author.Tests.{leb-true, ltb-true, le-leb, lt-leb}
+use borrow.Author.Tests.{ne_eqb, leb-true, ltb-true}
 use Rattle.frame.proofs.Truth.{and_left, and_right}
-use Rattle.capi.specs.State.{fits}
+use Rattle.capi.specs.State.{flag, at, fits, number_in}
 
 pub fits_length : (ms s : List ℕ) → fits ms s ≡ true → length s ≡ length ms
 unfolding fits
@@ -68,34 +69,41 @@ take_fits (m ∷ ms) (x ∷ xs) (suc n) h =
 pub part_fits : (ms ns s : List ℕ) (i n : ℕ) → fits ms s ≡ true → take n (drop i ms) ≡ ns → fits ns (take n (drop i s)) ≡ true
 part_fits ms ns s i n h e = subst (λ (l : List ℕ). fits l (take n (drop i s)) ≡ true) e (take_fits (drop i ms) (drop i s) n (drop_fits ms s i h))
 
+-- a number that two places hold is at most the greatest of the second
+module _ (ms s : List ℕ) (i x m : ℕ) (o : Option ℕ) (e : o ≡ Some x) (k : o ≡ number_in (take 2 (drop i s))) (h : fits ms s ≡ true)
+    (g : leb (get_or (take 2 (drop i ms)) 1 0) m ≡ true) where
+  number_most : x ≤ m
+  unfolding number_in
+  number_most = go (flag (at (take 2 (drop i s)) 0)) (sym k ∙ e) where
+    go : (b : Bool) → cond b (Some (at (take 2 (drop i s)) 1)) None ≡ Some x → x ≤ m
+    go true f =
+        let same : at (take 2 (drop i s)) 1 ≡ x = ap (λ (y : Option ℕ). unwrap_or y 0) f in
+        omega (arith, same, most_at (take 2 (drop i ms)) (take 2 (drop i s)) 1 m (part_fits ms _ s i 2 h refl) g)
+    go false f = let same : 0 ≡ x = ap (λ (y : Option ℕ). unwrap_or y 0) f in omega (arith, same)
+
+pub number_u8 : (ms s : List ℕ) (i x : ℕ) (o : Option ℕ) → o ≡ Some x → o ≡ number_in (take 2 (drop i s)) → fits ms s ≡ true →
+    leb (get_or (take 2 (drop i ms)) 1 0) 255 ≡ true → Fits w8 x
+number_u8 ms s i x o e k h g = record { fits = omega (arith, number_most ms s i x 255 o e k h g) }
+
+pub number_u32 : (ms s : List ℕ) (i x : ℕ) (o : Option ℕ) → o ≡ Some x → o ≡ number_in (take 2 (drop i s)) → fits ms s ≡ true →
+    leb (get_or (take 2 (drop i ms)) 1 0) 4294967295 ≡ true → Fits w32 x
+number_u32 ms s i x o e k h g = record { fits = omega (arith, number_most ms s i x 4294967295 o e k h g) }
+
 pub ruleset placed = (index_in, end_in, most_at, u8_at, u16_at, u32_at, part_fits)
 
--- ---- the test, number by number: the first of what is left fits, or does not
-module _ (whole : Bool) (ms ns s t : List ℕ) (m x : ℕ) (so_far : whole ≡ fits ms s) (most : ms ≡ m ∷ ns) (number : s ≡ x ∷ t) where
-  next : whole ≡ (leb x m && fits ns t)
-  unfolding fits
-  next = so_far ∙ ap₂ fits most number
-
-  pub fits_on : x ≤ m → whole ≡ fits ns t
-  fits_on k = next ∙ ap (λ (b : Bool). b && fits ns t) (le-leb x m k)
-
-  pub fits_not : m < x → false ≡ whole
-  fits_not k = sym (next ∙ ap (λ (b : Bool). b && fits ns t) (lt-leb x m k))
-
--- nothing is left
-pub fits_end : (ms s : List ℕ) → length s ≡ length ms → length ms ≡ 0 → true ≡ fits ms s
+-- ---- the test, number by number
+all_fit : (ms s : List ℕ) → length s ≡ length ms → list_all (λ (p : ℕ × ℕ). leb p.0 p.1) (zip s ms) ≡ fits ms s
 unfolding fits
-fits_end [] [] e h = refl
-fits_end [] (x ∷ xs) e h = absurd (omega (arith, e))
-fits_end (m ∷ ms) s e h = absurd (omega (arith, h))
+all_fit [] [] e = refl
+all_fit [] (x ∷ xs) e = absurd (omega (arith, e))
+all_fit (m ∷ ms) [] e = absurd (omega (arith, e))
+all_fit (m ∷ ms) (x ∷ xs) e = ap (λ (b : Bool). leb x m && b) (all_fit ms xs (omega (arith, e)))
 
--- of two lists of one length one is at its end, so both are
-pub none_left : {A B : Type 0} (a : A) (b : B) (m n : ℕ) → m ≡ n → ((x : A) × ((m ≡ 0) × (x ≡ a))) ⊎ ((y : B) × ((n ≡ 0) × (y ≡ b))) → n ≡ 0
-none_left a b m n e (inl h) = sym e ∙ h.1.0
-none_left a b m n e (inr h) = h.1.0
+pub fits_each : (ms s : List ℕ) (r : Bool) → length s ≡ length ms → r ≡ list_all (λ (p : ℕ × ℕ). leb p.0 p.1) (zip s ms) → r ≡ fits ms s
+fits_each ms s r e h = h ∙ all_fit ms s e
 
-pub fits_short : (ms s : List ℕ) → (length s ≡ length ms → ⊥) → false ≡ fits ms s
-fits_short ms s h = go (fits ms s) refl where
+pub fits_short : (ms s : List ℕ) (n : ℕ) → (length s ≡ n → ⊥) → n ≡ length ms → eqb (length s) n ≡ fits ms s
+fits_short ms s n h l = ne_eqb (length s) n h ∙ go (fits ms s) refl where
   go : (b : Bool) → fits ms s ≡ b → false ≡ fits ms s
-  go true e = absurd (h (fits_length ms s e))
+  go true e = absurd (h (fits_length ms s e ∙ sym l))
   go false e = sym e

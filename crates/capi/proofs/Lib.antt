@@ -1,5 +1,4 @@
 pub mod Fits
-pub mod Position
 pub mod Copy
 pub mod Answers
 pub mod Round

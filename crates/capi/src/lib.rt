@@ -4,17 +4,20 @@
 
 ghost use Rattle.std.specs.Prelude.{◌≡◌, true, cond, ◌+◌, ◌≤◌, ◌++◌, eqb, length, take, OnSome};
 ghost use Rattle.capi.specs.Exports.{lent, call_left, call, pins_number, pins_answer, interrupt_answer, fresh_state, playing, played};
-ghost use Rattle.capi.specs.State.{tag, number_list, format_list, tx_tag, tx_character, tx_cell, tx_loaded, tx_list, position_number, rx_list, register_list, power_list, line_list, encode, due_max, holding_max, format_max, character_max, tx_max, word_max, rx_max, port_max, fits, number_in, format_in, character_in, tx_of, tx_in, position_of, word_in, rx_in, port_of, port_in, decode};
+ghost use Rattle.capi.specs.State.{tag, number_list, format_list, tx_tag, tx_character, tx_cell, tx_loaded, tx_list, position_number, rx_list, register_list, power_list, line_list, encode, format_max, character_max, tx_max, word_max, rx_max, port_max, fits, number_in, format_in, character_in, tx_of, tx_in, position_of, word_in, rx_in, port_of, port_in, decode};
+ghost use Rattle.player.specs.Play.{end_number};
 ghost use Rattle.port.specs.Calls.{answer};
 
 use command::Kind;
 use frame::Format;
 use pins::Pins;
+use player::{Reason, Refused};
 use port::{Called, Port, Refusal};
+use script::Fault;
 use shift::{Character, Rx, Tx};
 
 // How many numbers a state has, and the greatest that C may give for each.
-const STATE: usize = 53;
+pub const STATE: usize = 53;
 
 const MAXIMA: [u64; STATE] = [
     255,
@@ -199,7 +202,7 @@ fn tx_words(tx: Tx) -> [u64; 12]
     ]
 }
 
-// As a number for C: itself plus 128.
+// The number that C is told: itself plus 128. No `From` can be written between two of the language's own types.
 fn position_number(position: i8) -> u64
     ensures { result ≡ position_number position }
 {
@@ -278,15 +281,15 @@ fn line_words(p: Port) -> [u64; 9]
 }
 
 // ---- numbers as a port
-// Each of these reads a part of the array, whose numbers fit the places of that part: as a type that would be one for each part.
-// One for a `u32` and one for a byte: with one for both, a conversion would be tested that cannot fail.
-#[tactic(auto, using(crate::proofs::Fits::placed), unfolding(crate::specs::State::number_in))]
-fn due_in(s: &[u64]) -> Option<u32>
+// Each of these reads a part of the array, whose numbers fit the places of that part: as a type that would be one for each part. A part of a slice is a
+// slice; as an array its length would be tested where the test cannot fail.
+// A number, if there is one. Callers narrow it: the place that they read it from says how large it may be.
+#[tactic(auto, unfolding(crate::specs::State::number_in))]
+fn number_in(s: &[u64]) -> Option<u64>
     requires sized { length s.now ≡ 2 }
-    requires fits { fits due_max s.now ≡ true }
     ensures { result ≡ number_in s.now }
 {
-    if s[0] != 0 { Some(s[1] as u32) } else { None }
+    (s[0] != 0).then_some(s[1])
 }
 
 #[tactic(auto, using(crate::proofs::Fits::placed), unfolding(crate::specs::State::format_in))]
@@ -316,15 +319,6 @@ fn character_in(s: &[u64]) -> Character
         format,
         word: s[6] as u16,
     }
-}
-
-#[tactic(auto, using(crate::proofs::Fits::placed), unfolding(crate::specs::State::number_in))]
-fn holding_in(s: &[u64]) -> Option<u8>
-    requires sized { length s.now ≡ 2 }
-    requires fits { fits holding_max s.now ≡ true }
-    ensures { result ≡ number_in s.now }
-{
-    if s[0] != 0 { Some(s[1] as u8) } else { None }
 }
 
 // The variant that a number names, with what it holds. The flag and the half are numbers of the array, read before the variant is known.
@@ -359,10 +353,11 @@ fn tx_in(s: &[u64]) -> Tx
     ensures { result ≡ tx_in s.now }
 {
     let character = character_in(&s[1..8]);
-    let next = due_in(&s[9..11]);
+    let next = number_in(&s[9..11]).map(|n| n as u32);
     tx_of(s[0], character, s[8] as u8, next, s[10] as u32, s[11] != 0)
 }
 
+// From the number that C gives, which is 128 more.
 #[tactic(auto, unfolding(crate::specs::State::position_of))]
 fn position_of(n: u64) -> i8
     requires { n ≤ 255 }
@@ -378,7 +373,7 @@ fn word_in(s: &[u64]) -> Rx
     ensures { result ≡ word_in s.now }
 {
     let format = format_in(&s[0..6]);
-    let next = due_in(&s[10..12]);
+    let next = number_in(&s[10..12]).map(|n| n as u32);
     let position = position_of(s[7]);
     Rx {
         format,
@@ -396,11 +391,8 @@ fn rx_in(s: &[u64]) -> Option<Rx>
     requires fits { fits rx_max s.now ≡ true }
     ensures { result ≡ rx_in s.now }
 {
-    if s[0] != 0 {
-        Some(word_in(&s[1..13]))
-    } else {
-        None
-    }
+    let word = &s[1..13];
+    (s[0] != 0).then(|| word_in(word))
 }
 
 // The fields that are enums come with it.
@@ -448,27 +440,20 @@ fn port_in(s: &[u64]) -> Port
     requires fits { fits port_max s.now ≡ true }
     ensures { result ≡ port_in s.now }
 {
-    let holding = holding_in(&s[17..19]);
+    let holding = number_in(&s[17..19]).map(|n| n as u8);
     let tx = tx_in(&s[19..31]);
     let rx = rx_in(&s[31..44]);
-    let sync_next = due_in(&s[49..51]);
+    let sync_next = number_in(&s[49..51]).map(|n| n as u32);
     port_of(s, holding, tx, rx, sync_next)
 }
 
 // ---- the lent array: C lends it, so that it is as long as a state is a clause and no type
 // Whether it is a state: as many numbers as there are places, none above its place's greatest.
+#[tactic(auto, using(crate::proofs::Fits::fits_short))]
 fn is_state(s: &[u64]) -> bool
     ensures { result ≡ fits port_max s.now }
 {
-    if s.len() != STATE {
-        return false;
-    }
-    for (n, most) in s.iter().zip(MAXIMA.iter()) {
-        if n > most {
-            return false;
-        }
-    }
-    true
+    s.len() == STATE && s.iter().zip(MAXIMA.iter()).all(|(n, most)| n <= most)
 }
 
 // The port in the array, if it is a state.
@@ -477,10 +462,10 @@ fn decode(s: &[u64]) -> Option<Port>
     ensures value { result ≡ decode s.now }
     ensures sized { OnSome result (length s.now ≡ length port_max) }
 {
-    if is_state(s) { Some(port_in(s)) } else { None }
+    is_state(s).then(|| port_in(s))
 }
 
-// Puts numbers at a place of the array, after those that stand before it.
+// Puts numbers at a place of the array, after those that stand before it. The array is C's, so the place is an offset into it.
 fn put(s: &mut [u64], at: usize, numbers: &[u64])
     requires { at + length numbers.now ≤ length s.old }
     ensures { take (at + length numbers.now) s.new ≡ take at s.old ++ numbers.now }
@@ -513,11 +498,11 @@ fn store(s: &mut [u64], p: Port)
 const REFUSED: u64 = 256;
 
 // A kind that is none of the table, and an array that is no state that passes the field test.
-const UNKNOWN: u64 = REFUSED + 7;
+const UNKNOWN: u64 = REFUSED + Fault::Kind as u64;
 
-const NO_STATE: u64 = REFUSED + 8;
+const NO_STATE: u64 = REFUSED + Refusal::State as u64;
 
-// The array after a call, and the call's answer.
+// The array after a call, and the call's answer: C is told numbers.
 fn call_left(s: &mut [u64], port: Port, called: Result<Called, Refusal>) -> u64
     requires { length s.old ≡ length port_max }
     ensures { lent result s.new ≡ call_left s.old (answer port called) }
@@ -546,6 +531,7 @@ pub fn sci3_call(state: &mut [u64], kind: u32, a: u32, b: u32) -> u64
     call_left(state, port, port.direct(kind.command(a, b)))
 }
 
+// C is told the pins as one number.
 #[tactic(auto, unfolding(crate::specs::Exports::pins_number))]
 fn pins_number(pins: Pins) -> u64
     ensures { result ≡ pins_number pins }
@@ -583,12 +569,18 @@ pub fn sci3_fresh(state: &mut [u64]) -> u64
     0
 }
 
-// The array after a run; after refusal 8 it is as it was. By its number, as C is told it.
-fn put_state(s: &mut [u64], number: u8, port: Port)
+// The array after a run; where the port failed the field test it is as it was.
+fn put_state(s: &mut [u64], end: Result<(), Refused>, port: Port)
     requires { length s.old ≡ length port_max }
-    ensures { s.new ≡ cond (eqb number 8) s.old (encode port) }
+    ensures { s.new ≡ cond (eqb (end_number end) 8) s.old (encode port) }
 {
-    if number != 8 {
+    if !matches!(
+        end,
+        Err(Refused {
+            reason: Reason::Call(Refusal::State),
+            ..
+        })
+    ) {
         store(s, port);
     }
 }
@@ -601,11 +593,10 @@ pub fn sci3_play(state: &mut [u64], script: &[u8], log: &mut [u8], told: &mut [u
 {
     let Some(port) = decode(state) else {
         *told = [0, 0];
-        return 8;
+        return Refusal::State as u64;
     };
     let run = player::play(port, script, log);
-    let number = run.number();
-    put_state(state, number, run.port);
-    *told = [run.offset() as u64, run.used as u64];
-    u64::from(number)
+    put_state(state, run.end, run.port);
+    *told = [player::end_offset(run.end) as u64, run.used as u64];
+    u64::from(player::end_number(run.end))
 }

@@ -1,4 +1,5 @@
 // The static library of SCI3: under its name in C, each function calls that of crate capi and promises the same. C declares them in crates/capi/sci3.h.
+// Each stands in both crates, since a crate is a library or a static library and not both.
 #![tactic(auto)]
 
 ghost use Rattle.std.specs.Prelude.{◌≡◌};

@@ -126,7 +126,7 @@ impl Kind {
     }
 }
 
-// The command of a kind's number, from its operands. A number that is no kind's is taken as the last.
+// The command of a kind's number, from its operands. It is public and takes any number: one that is no kind's is taken as the last.
 pub fn command_of(kind: u32, a: u32, b: u32) -> Command
     ensures { result ≡ command_of kind a b }
 {

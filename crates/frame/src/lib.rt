@@ -14,7 +14,7 @@ pub struct Format {
     pub half_bit: u32,
 }
 
-// The fields of a format that are numbers, from SMR and SEMR.
+// How many data bits SMR asks for.
 fn data_bits(smr: u8) -> u8
     ensures { result ≡ cond (has smr 0x80) 8 (cond (has smr 4) 5 (cond (has smr 0x40) 7 8)) }
 {
@@ -29,16 +29,11 @@ fn data_bits(smr: u8) -> u8
     }
 }
 
-fn stop_bits(smr: u8) -> u8
-    ensures { result ≡ cond (has smr 8) 2 1 }
+// The one or the other by bit 3 of a register: SMR's chooses the stop bits, SEMR's the length of a cell.
+fn by_bit_3<T: Copy>(register: u8, set: T, clear: T) -> T
+    ensures { result ≡ cond (has register 8) set clear }
 {
-    if smr & 8 != 0 { 2 } else { 1 }
-}
-
-fn cell_length(semr: u8) -> u32
-    ensures { result ≡ cond (has semr 8) 16 32 }
-{
-    if semr & 8 != 0 { 16 } else { 32 }
+    if register & 8 != 0 { set } else { clear }
 }
 
 // A number whose n low bits are set.
@@ -61,8 +56,8 @@ impl Format {
         let data = data_bits(smr);
         let parity = !synchronous & (smr & 0x20 != 0) & (!short | (smr & 0x40 != 0));
         let odd = smr & 0x10 != 0;
-        let stops = stop_bits(smr);
-        let half_bit = cell_length(semr);
+        let stops = by_bit_3(smr, 2, 1);
+        let half_bit = by_bit_3(semr, 16, 32);
         Self {
             synchronous,
             data,

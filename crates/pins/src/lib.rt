@@ -27,11 +27,7 @@ pub struct Pins {
 fn transmit_level(port: Port) -> Option<bool>
     ensures { result ≡ transmit_level port }
 {
-    if port.spcr & 0x10 != 0 {
-        Some(port.uart ^ (port.spcr & 2 != 0))
-    } else {
-        None
-    }
+    (port.spcr & 0x10 != 0).then_some(port.uart ^ (port.spcr & 2 != 0))
 }
 
 // In start-stop form high in the second half of each cell.

@@ -8,7 +8,7 @@ use native.Mathlib.Omega.{arith}
 use lib.ListN.{length, take, drop}
 use borrow.Rule.Slice.PartMut.{put_mid}
 use borrow.Author.Tests.{lt-ltb, le-ltb}
-use Rattle.branches.proofs.Branches.{by_cond, cond_true}
+use Rattle.branches.proofs.Branches.{cond_true}
 use Rattle.frame.proofs.Laws.{from_bool_is}
 use Rattle.command.specs.declared.Command.{Command}
 use Rattle.command.specs.Command.{kind}

@@ -100,7 +100,8 @@ pub struct Refused {
 }
 
 // What playing hands back: the last port (at a refusal, as before the refused command), whether the whole script was accepted, and how many bytes of the
-// log are written. The log is lent by C, which is told that number.
+// log are written. The log is lent by C, which is told that number. It is only copied: another derive would read the port's 28 fields, and nothing compares
+// or prints one.
 #[derive(Clone, Copy)]
 pub struct Played {
     pub port: Port,
@@ -108,25 +109,23 @@ pub struct Played {
     pub used: usize,
 }
 
-impl Played {
-    // Document 01's number; 0 where the script was accepted: both are what C is told.
-    pub fn number(&self) -> u8
-        ensures { result ≡ end_number self.now.end }
-    {
-        match self.end {
-            Ok(()) => 0,
-            Err(refused) => u8::from(refused.reason),
-        }
+// Document 01's number of a run's end; 0 where the script was accepted: both are what C is told.
+pub fn end_number(end: Result<(), Refused>) -> u8
+    ensures { result ≡ end_number end }
+{
+    match end {
+        Ok(()) => 0,
+        Err(refused) => u8::from(refused.reason),
     }
+}
 
-    // The offset of the refused command's first byte, else 0.
-    pub fn offset(&self) -> usize
-        ensures { result ≡ end_offset self.now.end }
-    {
-        match self.end {
-            Ok(()) => 0,
-            Err(refused) => refused.offset,
-        }
+// The offset of the refused command's first byte, else 0.
+pub fn end_offset(end: Result<(), Refused>) -> usize
+    ensures { result ≡ end_offset end }
+{
+    match end {
+        Ok(()) => 0,
+        Err(refused) => refused.offset,
     }
 }
 

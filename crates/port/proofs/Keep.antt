@@ -438,9 +438,6 @@ with_clock_ready r p next high e h = result r (with_clock p next high) e (keep_c
 half_as : (r q : Port) → r ≡ q → q.half ≤ limit → r.half ≤ limit
 half_as r q e h = subst⁻¹ (λ (x : Port). x.half ≤ limit) e h
 
-pub with_rx_half : (r p : Port) (x : Option Rx) → r ≡ with_rx p x → p.half ≤ limit → r.half ≤ limit
-with_rx_half r p x e h = half_as r (with_rx p x) e h
-
 pub with_power_half : (r p : Port) (a b c d : Bool) → r ≡ with_power p a b c d → p.half ≤ limit → r.half ≤ limit
 with_power_half r p a b c d e h = half_as r (with_power p a b c d) e h
 

@@ -1,13 +1,12 @@
 -- Halves on which nothing happens only count, so that a run of them may be counted at once; and what the loop of `halves` cites.
 -- Assumes nothing.
 use Rattle.std.specs.Prelude.{Option, None, Some, is_some, unwrap_or}
-use Rattle.std.proofs.Common.{◌≡◌, ℕ, zero, suc, ◌+◌, ◌-◌, ◌%◌, ◌<◌, ◌≤◌, Bool, true, false, cond, not, ◌&&◌, ◌||◌, eqb, ltb, sym, refl, ap, ◌∙◌, subst, ap₂, true≢false, le_trans, suc-add, zero-add, arith, ltb-false, ltb-true, lt-ltb, eq-eqb, ne_eqb, eqb-true}
+use Rattle.std.proofs.Common.{◌≡◌, ℕ, zero, suc, ◌+◌, ◌-◌, ◌%◌, ◌<◌, ◌≤◌, Bool, true, false, cond, not, ◌||◌, eqb, ltb, sym, refl, ap, ◌∙◌, subst, ap₂, true≢false, le_trans, suc-add, zero-add, arith, ltb-false, ltb-true, lt-ltb, eq-eqb, ne_eqb, eqb-true}
 use mathlib.Core.Path.{subst⁻¹}
-use borrow.Author.Tests.{eqb-false, not-true}
+use borrow.Author.Tests.{eqb-false}
 use Rattle.frame.specs.Frame.{differ}
 use Rattle.branches.proofs.Branches.{by_cond}
 use Rattle.frame.proofs.Choose.{cond_t}
-use Rattle.frame.proofs.Truth.{and_left, and_right}
 use Rattle.shift.specs.Due.{due_now, within}
 use Rattle.shift.specs.Sender.{tx_next}
 use Rattle.shift.specs.Receiver.{rx_next}
@@ -16,7 +15,7 @@ use Rattle.port.specs.Fields.{with_half, with_high, with_edge}
 use Rattle.port.specs.Baud.{external, counted}
 use Rattle.port.specs.Clocked.{refresh_sync_clock, sync_edge}
 use Rattle.port.specs.Half.{process_basic, clocked_edge, advance, half_step, halves}
-use Rattle.port.specs.Private.Skip.{arms_on, clock_fresh, deadline, counted_by, idle_for, toggled, edge_of, edge_work, ClockGives, edges}
+use Rattle.port.specs.Private.Skip.{arms_on, clock_fresh, deadline, counted_by, toggled, edge_of, edge_work, ClockGives, edges}
 use Rattle.port.specs.Valid.{limit}
 use Rattle.port.specs.Private.Ready.{Ready}
 use Rattle.port.proofs.Keep.{own, keep_process_basic, keep_sync_edge, keep_clocked_edge, keep_refresh_sync_clock, keep_counted, sync_edge_ready, clocked_edge_ready, with_clock_ready}
@@ -140,29 +139,6 @@ all_still (suc k) p r l x s =
     let c : half_step p ≡ counted p = half_once r (omega (arith, l)) x ∙ advance_still (suc k) p x s in
     ap (halves (suc k)) c ∙ all_still k (counted p) (keep_counted r (omega (arith, l))) (omega (arith, l)) x (still_counted (suc k) p s) ∙ then_counted (suc k) p
 
-idle_still : (n : ℕ) (p : Port) → idle_for n p ≡ true → Still n p
-unfolding idle_for
-idle_still n p e =
-    let a : Bool = not (arms_on p.rx p) in
-    let f : Bool = clock_fresh p in
-    let s : Bool = ltb n (within (tx_next p.tx) p.half (n + 1)) in
-    let r : Bool = ltb n (within (rx_next p.rx) p.half (n + 1)) in
-    let c : Bool = ltb n (within p.sync_next p.half (n + 1)) in
-    let fsrc : (f && (s && (r && c))) ≡ true = and_right a (f && (s && (r && c))) e in
-    let src : (s && (r && c)) ≡ true = and_right f (s && (r && c)) fsrc in
-    let rc : (r && c) ≡ true = and_right s (r && c) src in
-    record {
-      unarmed = not-true (arms_on p.rx p) (and_left a (f && (s && (r && c))) e);
-      fresh = and_left f (s && (r && c)) fsrc;
-      sends = within_clear (tx_next p.tx) p.half (n + 1) n (ltb-true n _ (and_left s (r && c) src));
-      receives = within_clear (rx_next p.rx) p.half (n + 1) n (ltb-true n _ (and_left r c rc));
-      clocks = within_clear p.sync_next p.half (n + 1) n (ltb-true n _ (and_right r c rc));
-    }
-
-pub idle_halves : (z p : Port) (n : ℕ) (f : Bool) → Ready p.half p → p.half + n ≤ limit → external p ≡ false → 448 < n → f ≡ idle_for n p → f ≡ true → z ≡ counted_by n p → z ≡ halves n p
-idle_halves z p zero f r l x some ef t e = absurd (omega (arith, some))
-idle_halves z p (suc k) f r l x some ef t e = e ∙ sym (all_still k p r l x (idle_still (suc k) p (sym ef ∙ t)))
-
 -- as many as the deadline says
 pub deadline_bounds : (p : Port) (left k : ℕ) → 1 ≤ left → k ≡ deadline left p → (1 ≤ k) × (k ≤ left)
 unfolding deadline
@@ -205,6 +181,14 @@ deadline_still p left i l e = go (arms_on p.rx p) (clock_fresh p) refl refl e
           receives = within_clear (rx_next p.rx) p.half sent (suc i) (omega (arith, d, c.1));
           clocks = within_clear p.sync_next p.half taken (suc i) (omega (arith, d));
         }
+
+-- a deadline after all of them: they only count
+pub idle_halves : (z p : Port) (n k : ℕ) → Ready p.half p → p.half + n ≤ limit → external p ≡ false → 448 < n → k ≡ deadline (n + 1) p → n < k → z ≡ counted_by n p → z ≡ halves n p
+idle_halves z p zero k r l x some ek t e = absurd (omega (arith, some))
+idle_halves z p (suc i) k r l x some ek t e =
+    let b = deadline_bounds p (suc i + 1) k (omega arith) ek in
+    let same : suc (suc i) ≡ k = omega (arith, b.1, t) in
+    e ∙ sym (all_still i p r l x (deadline_still p (suc i + 1) i (omega arith) (same ∙ ek)))
 
 pub skip_deadline : (p : Port) (left k : ℕ) → Ready p.half p → external p ≡ false → 1 ≤ left → p.half + left ≤ limit → k ≡ deadline left p → advance (counted_by k p) ≡ halves k p
 skip_deadline p left zero r x l h e = absurd (omega (arith, (deadline_bounds p left zero l e).0))

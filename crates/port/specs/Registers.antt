@@ -3,6 +3,8 @@
 use Rattle.std.specs.Prelude.{ℕ, ◌+◌, ◌-◌, ◌*◌, Bool, true, cond, not, ◌&&◌, ◌||◌, ◌==◌, bit_and, bit_or, nat_le, Option, None, Some, is_some}
 use Rattle.frame.specs.Frame.{has, cells}
 use Rattle.port.specs.declared.Port.{Port}
+use Rattle.port.specs.declared.register.Register.{Register}
+use Rattle.port.specs.declared.register.Register.TheVariants.{Spcr, Smr, Brr, Scr, Tdr, Ssr, Rdr, Semr, Ircr}
 use Rattle.shift.specs.declared.Tx.{Tx}
 use Rattle.shift.specs.declared.Tx.TheVariants.{Off, Blocked, Mark, Start, Data, Tail}
 use Rattle.port.specs.Fields.{with_spcr, with_smr, with_brr, with_scr, with_tdr, with_ssr, with_semr, with_ircr, with_seen, with_uart, with_tx, with_rx, with_holding, with_high, with_sync_next}
@@ -15,6 +17,18 @@ use Rattle.shift.specs.declared.Character.{Character}
 -- the nine addresses: SPCR; SMR, BRR, SCR, TDR, SSR, RDR; SEMR, IRCR
 abbrev pub handles : ℕ → Bool
 handles a = a == 0xff91 || ((nat_le 0xff98 a && nat_le a 0xff9d) || (a == 0xffa6 || a == 0xffa7))
+
+-- the registers by name
+abbrev pub address : Register → ℕ
+address Spcr = 0xff91
+address Smr = 0xff98
+address Brr = 0xff99
+address Scr = 0xff9a
+address Tdr = 0xff9b
+address Ssr = 0xff9c
+address Rdr = 0xff9d
+address Semr = 0xffa6
+address Ircr = 0xffa7
 
 -- the register at an address; IRCR at any other
 unfoldable pub peek : Port → ℕ → ℕ

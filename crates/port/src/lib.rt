@@ -5,15 +5,14 @@ ghost use Rattle.std.specs.Prelude.{◌≡◌, ◌+◌, ◌<◌, ◌≤◌, true
 ghost use Rattle.shift.specs.declared.Tx.TheVariants.{Off};
 ghost use Rattle.port.specs.Fields.{with_rx, with_input_clock};
 ghost use Rattle.port.specs.Baud.{format_of, external, running, edge_counts, next_fall, boundary};
-ghost use Rattle.shift.specs.Due.{due_now};
 ghost use Rattle.shift.specs.Receiver.{armed, started, bit_at, stepped, sample, bit_taken, rx_next};
-ghost use Rattle.port.specs.Receiver.{input_level, complete_receive, after_sample, advance_rx};
+ghost use Rattle.port.specs.Receiver.{input_level, arm_receive, complete_receive, after_sample, advance_rx};
 ghost use Rattle.shift.specs.Sender.{level};
 ghost use Rattle.port.specs.Sender.{character, loaded, preloaded, drive, begin, start_at, start_loaded, try_start_on, try_start, finish_tail, tailed, next_cell, send_step_on, advance_tx};
 ghost use Rattle.port.specs.Clocked.{sync_needed, refresh_sync_clock, take_bit, receive_bit, tail_ends, bit_out, shift_out, sync_edge};
 ghost use Rattle.port.specs.Half.{process_basic, halves, uncounted};
-ghost use Rattle.port.specs.Private.Skip.{arms_on, starts_on, nothing_due, toggled, edge_of, edge_work, clock_fresh, deadline, counted_by, ClockGives, edges, idle_for};
-ghost use Rattle.port.specs.Registers.{handles, peek, read, sender_off, scr_tx, write_scr, write_tdr, status_write, stored, connect, load_tail, after_store, write};
+ghost use Rattle.port.specs.Private.Skip.{arms_on, nothing_due, toggled, edge_of, edge_work, clock_fresh, deadline, counted_by, ClockGives, edges};
+ghost use Rattle.port.specs.Registers.{address, peek, read, sender_off, scr_tx, write_scr, write_tdr, status_write, stored, connect, load_tail, after_store, write};
 ghost use Rattle.port.specs.Power.{fresh, reset_registers, reset, set_power};
 ghost use Rattle.port.specs.Input.{receive_input, external_edge};
 ghost use Rattle.port.specs.Valid.{limit, registers_valid, valid};
@@ -23,8 +22,10 @@ ghost use Rattle.port.specs.Private.Ready.{Ready};
 
 use command::Command;
 use frame::Format;
-use shift::{Character, Rx, Sampled, Tx, due_valid, within};
+use register::Register;
+use shift::{Character, Rx, Sampled, Tx, due_valid, rx_next, rx_synchronous, rx_valid, within};
 
+mod register;
 mod tested;
 
 pub use tested::Tested;
@@ -86,13 +87,6 @@ pub enum Refusal {
 pub struct Called {
     pub value: u8,
     pub port: Port,
-}
-
-// Whether something is due at this half.
-fn due_now(due: Option<u32>, half: u32) -> bool
-    ensures { result ≡ due_now due half }
-{
-    due == Some(half)
 }
 
 // ---- a word on its way
@@ -242,8 +236,8 @@ impl Default for Port {
     }
 }
 
-// What a step asks of the port (`half ≤ limit`, `Sendable`, `PlacedIn`, `Ready`) is what its own sums and shifts need. A type that holds it would have to be
-// proved anew of what each of these steps hands back; as clauses it is proved at the nine calls that need it.
+// What a step asks of the port (`half ≤ limit`, `Sendable`, `PlacedIn`, `Ready`) is what its own sums and shifts need. `Port` cannot hold it: C may give one of
+// any half count. A type around the port can (tried), but it would put `.port` before each field that a step names, and into each clause.
 impl Port {
     #[tactic(auto, using(crate::proofs::Steps::valid_bounded))]
     fn format(self) -> Format
@@ -293,16 +287,14 @@ impl Port {
 
     // ---- receive line
     // RXD now shows this level.
-    #[tactic(auto, unfolding(crate::specs::Input::receive_input, crate::specs::Receiver::arm_receive))]
+    #[tactic(auto, unfolding(crate::specs::Input::receive_input))]
     fn receive_input(mut self, level: bool) -> Self
         requires { self.half ≤ limit }
         ensures { result ≡ receive_input level self }
     {
         if level != self.input {
             self.input = level;
-            if self.arms_now() {
-                return self.armed();
-            }
+            return self.arm_receive();
         }
         self
     }
@@ -351,32 +343,34 @@ impl Port {
 
     // ---- registers
     #[tactic(auto, unfolding(crate::specs::Registers::peek))]
-    fn peek(self, a: u32) -> u8
-        ensures { result ≡ peek self a }
+    fn peek(self, register: Register) -> u8
+        ensures { result ≡ peek self (address register) }
     {
-        match a {
-            0xff91 => self.spcr,
-            0xff98 => self.smr,
-            0xff99 => self.brr,
-            0xff9a => self.scr,
-            0xff9b => self.tdr,
-            0xff9c => self.ssr,
-            0xff9d => self.rdr,
-            0xffa6 => self.semr,
-            _ => self.ircr,
+        match register {
+            Register::Spcr => self.spcr,
+            Register::Smr => self.smr,
+            Register::Brr => self.brr,
+            Register::Scr => self.scr,
+            Register::Tdr => self.tdr,
+            Register::Ssr => self.ssr,
+            Register::Rdr => self.rdr,
+            Register::Semr => self.semr,
+            Register::Ircr => self.ircr,
         }
     }
 
     // The port once a register has been read.
     #[tactic(auto, unfolding(crate::specs::Registers::read))]
-    fn after_read(mut self, a: u32) -> Self
-        ensures { result ≡ read a self }
+    fn after_read(mut self, register: Register) -> Self
+        ensures { result ≡ read (address register) self }
     {
-        if a == 0xff9c {
-            self.seen = self.ssr;
-        } else if a == 0xff9d {
-            self.ssr &= 0xbf;
-            self.seen &= 0xbf;
+        match register {
+            Register::Ssr => self.seen = self.ssr,
+            Register::Rdr => {
+                self.ssr &= 0xbf;
+                self.seen &= 0xbf;
+            }
+            _ => {}
         }
         self
     }
@@ -460,20 +454,20 @@ impl Port {
     }
 
     #[tactic(auto, unfolding(crate::specs::Registers::stored))]
-    fn stored(mut self, a: u32, v: u8) -> Self
+    fn stored(mut self, register: Register, v: u8) -> Self
         requires { self.half ≤ limit }
-        ensures { result ≡ stored a v self }
+        ensures { result ≡ stored (address register) v self }
     {
-        match a {
-            0xff91 => self.spcr = v & 0x13 | 0xc0,
-            0xff98 => self.smr = v,
-            0xff99 => self.brr = v,
-            0xff9a => return self.write_scr(v),
-            0xff9b => return self.write_tdr(v),
-            0xff9c => return self.status_write(v),
-            0xff9d => {}
-            0xffa6 => self.semr = v & 8,
-            _ => self.ircr = v & 0xf0,
+        match register {
+            Register::Spcr => self.spcr = v & 0x13 | 0xc0,
+            Register::Smr => self.smr = v,
+            Register::Brr => self.brr = v,
+            Register::Scr => return self.write_scr(v),
+            Register::Tdr => return self.write_tdr(v),
+            Register::Ssr => return self.status_write(v),
+            Register::Rdr => {}
+            Register::Semr => self.semr = v & 8,
+            Register::Ircr => self.ircr = v & 0xf0,
         }
         self
     }
@@ -502,26 +496,25 @@ impl Port {
     }
 
     // What follows every store.
-    #[tactic(auto, using(crate::proofs::Keep::load_tail_ready, crate::proofs::Keep::try_start_ready, crate::proofs::Keep::with_rx_half, crate::proofs::Keep::ready_half, crate::proofs::Keep::ready_tx), unfolding(crate::specs::Registers::after_store, crate::specs::Receiver::arm_receive))]
+    #[tactic(auto, using(crate::proofs::Keep::load_tail_ready, crate::proofs::Keep::try_start_ready, crate::proofs::Keep::ready_half, crate::proofs::Keep::ready_tx), unfolding(crate::specs::Registers::after_store))]
     fn after_store(self) -> Self
         requires { Ready self.half self }
         ensures { result ≡ after_store self }
     {
-        let port = self.load_tail().start_held();
-        if port.arms_now() {
-            return port.armed().refresh_sync_clock();
-        }
-        port.refresh_sync_clock()
+        self.load_tail()
+            .try_start()
+            .arm_receive()
+            .refresh_sync_clock()
     }
 
     #[tactic(auto, using(crate::proofs::Keep::stored_ready, crate::proofs::Keep::connect_ready), unfolding(crate::specs::Registers::write))]
-    fn written(self, a: u32, v: u8) -> Self
+    fn written(self, register: Register, v: u8) -> Self
         requires { Ready self.half self }
-        ensures { result ≡ write a v self }
+        ensures { result ≡ write (address register) v self }
     {
         if self.module & !self.reset_mode {
             let external = self.external();
-            return self.stored(a, v).connect(external).after_store();
+            return self.stored(register, v).connect(external).after_store();
         }
         self
     }
@@ -636,42 +629,21 @@ impl Port {
     {
         let format = self.format();
         let held = self.holding.is_some();
-        if (self.scr & 0x20 != 0) & (held & (!format.synchronous | !(self.ssr & 0x38 != 0))) {
+        if (self.scr & 0x20 != 0) & (held & (!format.synchronous | (self.ssr & 0x38 == 0))) {
             return self.start_loaded();
         }
         self
     }
 
-    // Whether the sender may begin a word: a byte is held, or a word is blocked.
-    fn starts(self) -> bool
-        ensures { result ≡ starts_on self.tx self }
-    {
-        match self.tx {
-            Tx::Off => self.holding.is_some(),
-            Tx::Blocked { .. } => true,
-            _ => false,
-        }
-    }
-
-    // `try_start` after a store. Most stores start nothing, and the test is cheaper than the call.
-    #[tactic(auto, unfolding(crate::specs::Sender::try_start))]
-    fn start_held(self) -> Self
-        requires { (self.half ≤ limit) × Sendable self.tx }
-        ensures { result ≡ try_start self }
-    {
-        if self.starts() {
-            return self.try_start();
-        }
-        self
-    }
-
+    // A held byte or a blocked word begins. Inlined: most stores begin nothing, and the tests are cheaper than a call.
+    #[inline(always)]
     #[tactic(auto, unfolding(crate::specs::Sender::try_start))]
     fn try_start(self) -> Self
         requires { (self.half ≤ limit) × Sendable self.tx }
         ensures { result ≡ try_start self }
     {
         match self.tx {
-            Tx::Off => self.load_held(),
+            Tx::Off if self.holding.is_some() => self.load_held(),
             Tx::Blocked { character } if self.ssr & 0x38 == 0 => self.begin(character),
             _ => self,
         }
@@ -767,7 +739,7 @@ impl Port {
         }
         let format = self.format();
         let level = self.input_level();
-        (self.scr & 0x10 != 0) & (!(self.ssr & 0x38 != 0) & (!format.synchronous & !level))
+        (self.scr & 0x10 != 0) & ((self.ssr & 0x38 == 0) & (!format.synchronous & !level))
     }
 
     fn armed(mut self) -> Self
@@ -775,6 +747,20 @@ impl Port {
         ensures { result ≡ with_rx self (Some (armed (format_of self) (next_fall self))) }
     {
         self.rx = Some(Rx::armed(self.format(), self.next_fall()));
+        self
+    }
+
+    // A word begins in an empty receiver, where the line asks for one. Inlined, so that the port is copied only where one begins.
+    #[inline(always)]
+    #[tactic(auto, unfolding(crate::specs::Receiver::arm_receive))]
+    fn arm_receive(self) -> Self
+        requires { self.half ≤ limit }
+        ensures value { result ≡ arm_receive self }
+        ensures kept { result.half ≡ self.half }
+    {
+        if self.arms_now() {
+            return self.armed();
+        }
         self
     }
 
@@ -839,9 +825,9 @@ impl Port {
     {
         let sends = self.tx.synchronous();
         let format = self.format();
-        let receives = self.rx.is_some_and(|rx| rx.format.synchronous);
+        let receives = rx_synchronous(self.rx);
         sends
-            | ((self.scr & 0x10 != 0) & (!(self.ssr & 0x38 != 0) & (format.synchronous | receives)))
+            | ((self.scr & 0x10 != 0) & ((self.ssr & 0x38 == 0) & (format.synchronous | receives)))
     }
 
     #[tactic(auto, unfolding(crate::specs::Clocked::refresh_sync_clock))]
@@ -880,7 +866,7 @@ impl Port {
         requires { PlacedIn self.rx }
         ensures { result ≡ receive_bit self }
     {
-        if (self.scr & 0x10 != 0) & !(self.ssr & 0x38 != 0) {
+        if (self.scr & 0x10 != 0) & (self.ssr & 0x38 == 0) {
             let rx = self.rx.unwrap_or(Rx::clocked(self.format()));
             if rx.format.synchronous {
                 return self.take_bit(rx);
@@ -976,8 +962,9 @@ impl Port {
     fn nothing_due(self) -> bool
         ensures { result ≡ nothing_due self }
     {
-        let sends = due_now(self.tx.next(), self.half);
-        let receives = self.rx.is_some_and(|rx| rx.next == Some(self.half));
+        let now = Some(self.half);
+        let sends = self.tx.next() == now;
+        let receives = rx_next(self.rx) == now;
         let arms = self.arms_now();
         !sends & (!receives & !arms)
     }
@@ -992,6 +979,7 @@ impl Port {
             return self;
         }
         let port = self.advance_tx().advance_rx();
+        // `arm_receive`, written out: inlined here it takes a word of zeros received from 1.07 to 1.17 of the reference's time.
         if port.arms_now() {
             return port.armed();
         }
@@ -1015,7 +1003,7 @@ impl Port {
         requires { Ready self.half self }
         ensures { result ≡ edge_of pin self }
     {
-        if pin.is_some() | due_now(self.sync_next, self.half) {
+        if pin.is_some() | (self.sync_next == Some(self.half)) {
             let high = pin.unwrap_or(!self.sck);
             return self.toggled(pin).sync_edge(high);
         }
@@ -1043,14 +1031,8 @@ impl Port {
         self.process_basic().clocked_edge(pin).refresh_sync_clock()
     }
 
-    // The half on which the receiver acts next.
-    fn rx_next(self) -> Option<u32>
-        ensures { result ≡ rx_next self.rx }
-    {
-        self.rx.and_then(|rx| rx.next)
-    }
-
-    // The halves up to the next one that may do more than count, at most left.
+    // The halves up to the next one that may do more than count, at most left. Inlined: the loop of `edges` is a third slower where it is called.
+    #[inline(always)]
     #[tactic(auto, unfolding(crate::specs::Private::Skip::deadline))]
     fn deadline(self, left: u32) -> u32
         ensures { result ≡ deadline left self }
@@ -1059,7 +1041,7 @@ impl Port {
             return 1;
         }
         let left = within(self.tx.next(), self.half, left);
-        let left = within(self.rx_next(), self.half, left);
+        let left = within(rx_next(self.rx), self.half, left);
         within(self.sync_next, self.half, left)
     }
 
@@ -1092,20 +1074,6 @@ impl Port {
         port
     }
 
-    // Whether nothing happens in the next n halves. Not by `deadline`: with one caller the compiler keeps that in the loop.
-    #[tactic(auto, unfolding(crate::specs::Private::Skip::idle_for))]
-    fn idle_for(self, n: u32) -> bool
-        requires { n ≤ limit }
-        ensures { result ≡ idle_for n self }
-    {
-        let arms = self.arms_now();
-        let fresh = self.clock_fresh();
-        let sends = within(self.tx.next(), self.half, n + 1);
-        let receives = within(self.rx_next(), self.half, n + 1);
-        let clocks = within(self.sync_next, self.half, n + 1);
-        !arms & (fresh & ((sends > n) & ((receives > n) & (clocks > n))))
-    }
-
     // n halves of the internal clock. A due half is at most 448 ahead, so only a longer wait is likely to be idle.
     #[tactic(auto, using(crate::proofs::Skip::idle_halves))]
     fn halves(self, n: u32) -> Self
@@ -1113,7 +1081,7 @@ impl Port {
         ensures { result ≡ halves n self }
     {
         if n > 448 {
-            if self.idle_for(n) {
+            if self.deadline(n + 1) > n {
                 return self.counted_by(n);
             }
         }
@@ -1136,10 +1104,10 @@ impl Port {
         ensures { result ≡ registers_valid self }
     {
         (self.spcr & 0x13 | 0xc0 == self.spcr)
-            & (!(self.scr & 8 != 0)
+            & ((self.scr & 8 == 0)
                 & ((self.semr & 8 == self.semr)
                     & ((self.ircr & 0x70 == self.ircr)
-                        & (!(self.ssr & 3 != 0) & !(self.seen & 3 != 0)))))
+                        & ((self.ssr & 3 == 0) & (self.seen & 3 == 0)))))
     }
 
     // The field test of number 8.
@@ -1149,7 +1117,7 @@ impl Port {
     {
         let registers = self.registers_valid();
         let sends = self.tx.valid(self.half);
-        let receives = self.rx.is_none_or(|rx| rx.valid(self.half));
+        let receives = rx_valid(self.rx, self.half);
         let clocks = due_valid(self.sync_next, self.half);
         (self.half <= LIMIT)
             & (registers & (sends & (receives & ((self.bit_start <= self.half) & clocks))))
@@ -1157,12 +1125,6 @@ impl Port {
 }
 
 // ---- direct calls
-fn handles(a: u32) -> bool
-    ensures { result ≡ handles a }
-{
-    matches!(a, 0xff91 | 0xff98..=0xff9d | 0xffa6 | 0xffa7)
-}
-
 impl From<Refusal> for u8 {
     ghost from_gives = { λ refusal n. n ≡ number refusal };
 

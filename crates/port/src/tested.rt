@@ -4,7 +4,8 @@
 ghost use Rattle.std.specs.Prelude.{◌≡◌, true};
 ghost use Rattle.port.specs.Valid.{valid};
 
-use super::{Called, LIMIT, Port, Refusal, handles};
+use super::register::Register;
+use super::{Called, LIMIT, Port, Refusal};
 use command::Command;
 
 // Whoever makes many calls on one port tests it once: every accepted call keeps the test.
@@ -43,12 +44,15 @@ impl Tested {
         if a > 65535 {
             return Err(Refusal::Operand);
         }
-        if !handles(a) {
-            return Err(Refusal::Address);
-        }
-        Ok(self.port.after_read(a).done(self.port.peek(a)))
+        let register = Register::try_from(a)?;
+        Ok(
+            self.port
+                .after_read(register)
+                .done(self.port.peek(register)),
+        )
     }
 
+    // Address and value are the command's two numbers; the address is a register's at once, so they have no struct.
     #[tactic(auto, using(crate::proofs::Checked::valid_ready), unfolding(crate::specs::Calls::called))]
     fn write(self, a: u32, v: u32) -> Result<Called, Refusal>
         ensures { answer self.port result ≡ called (Command.Write a v) self.port }
@@ -56,13 +60,11 @@ impl Tested {
         if (a > 65535) | (v > 255) {
             return Err(Refusal::Operand);
         }
-        if !handles(a) {
-            return Err(Refusal::Address);
-        }
-        if (a == 0xffa7) & (v >= 128) {
+        let register = Register::try_from(a)?;
+        if matches!(register, Register::Ircr) & (v >= 128) {
             return Err(Refusal::Infrared);
         }
-        Ok(self.port.written(a, v as u8).done(0))
+        Ok(self.port.written(register, v as u8).done(0))
     }
 
     #[tactic(auto, using(crate::proofs::Checked::valid_ready, crate::proofs::CallLaws::not_external, crate::proofs::CallLaws::sum_fits), unfolding(crate::specs::Calls::called))]

@@ -290,11 +290,6 @@ pub near_direct : (c : Command) (p : Port) → Near p → Near (after (direct c 
 unfolding direct
 near_direct c p t = by_cond (λ (a : Answer). Near (after a)) (valid p) (called c p) (refuse 8 p) (λ e. near_called c p t) (λ e. t)
 
-pub near_run : (cs : List Command) (p : Port) → Near p → Near (port_run p cs)
-unfolding port_run
-near_run [] p t = t
-near_run (c ∷ cs) p t = near_run cs (after (direct c p)) (near_direct c p t)
-
 rest_run : (cs : List Command) (left : ℕ) (p : Port) → Resting left p → each_call rests p cs → Resting (left - length (levels (moments p cs))) (port_run p cs)
 unfolding port_run moments levels
 rest_run [] left p r q = let e : left - 0 ≡ left = omega arith in rw e r

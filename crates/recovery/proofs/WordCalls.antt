@@ -71,9 +71,6 @@ by_pins P c b p t u e =
     q = with_input_clock (receive_input b p) c
 
 module _ (start : Port) (items : List LineItem) (plain : (format_of start).synchronous ≡ false) where
-  f : Format
-  f = format_of start
-
   abbrev Here : Count → List Bool → Port → Type 0
   Here c ls p = Where (format_of start) items start.received c ls (view p)
 

@@ -5,12 +5,17 @@
 // sum; `stdout` has what a writer in Rust makes of it. oracle/README.md has the layout of both, and the command that made both files.
 #![tactic(auto)]
 
-use capi::{sci3_fresh, sci3_play};
+ghost use Rattle.std.specs.Prelude.{◌≤◌};
+
+use capi::{STATE, sci3_fresh, sci3_play};
 use command::Command;
 use player::RECORD;
 use script::Full;
 
+// How many bytes a log and a buffer have at most.
 const LOG: usize = 40960;
+
+const BUFFER: usize = 32;
 
 // What a write writes.
 #[derive(Clone, Copy, Debug, PartialEq, Eq)]
@@ -46,7 +51,7 @@ fn put(out: &impl Print, text: &str) {
     let _ = out.write_all(text.as_bytes());
 }
 
-// The bytes of a number of a case; zeros where the case ends before.
+// The bytes of a number of a case; zeros where the case ends before. The offset is of the list's layout.
 fn number<const N: usize>(s: &[u8], at: usize) -> [u8; N] {
     s.get(at..)
         .and_then(|rest| rest.first_chunk())
@@ -54,7 +59,10 @@ fn number<const N: usize>(s: &[u8], at: usize) -> [u8; N] {
         .unwrap_or([0; N])
 }
 
-// FNV-1a, 32 bits: the sum with these bytes more.
+// FNV-1a, 32 bits: the sum of no bytes.
+const NO_BYTES: u32 = 2166136261;
+
+// The sum with these bytes more.
 fn with_bytes(sum: u32, bytes: &[u8]) -> u32 {
     bytes.iter().fold(sum, |sum, byte| {
         (sum ^ u32::from(*byte)).wrapping_mul(16777619)
@@ -71,9 +79,9 @@ fn print_sum(out: &impl Print, sum: u32) {
     let _ = println!(out; "= {sum:08X}");
 }
 
-fn print_records(out: &impl Print, log: &[u8], used: usize) {
+fn print_records(out: &impl Print, log: &[u8]) {
     let (records, _) = log.as_chunks::<RECORD>();
-    for bytes in records.iter().take(used / RECORD) {
+    for bytes in records {
         put(out, &report::record_line(*bytes));
     }
 }
@@ -88,24 +96,27 @@ fn print_last(out: &impl Print, number: u64, offset: u64, halves: u64) {
     put(out, &line);
 }
 
+// Lends so many bytes of AA, if there are as many. (The check asks for a bound of an array; no caller's is larger.)
+fn with_room<const N: usize, F: FnOnce(&mut [u8])>(room: usize, f: F)
+    requires small { N ≤ 40960 }
+    requires callable { F.IsAlwaysCallable f }
+{
+    let mut bytes = [0xAAu8; N];
+    if let Some(part) = bytes.get_mut(..room) {
+        f(part);
+    }
+}
+
 // Plays a script on a fresh port and prints what it leaves.
-fn replay_on(out: &impl Print, script: &[u8], log: &mut [u8]) {
-    let mut state = [0u64; 53];
+fn replay(out: &impl Print, script: &[u8], log: &mut [u8]) {
+    let mut state = [0u64; STATE];
     let mut told = [0u64; 2];
     sci3_fresh(&mut state);
     let number = sci3_play(&mut state, script, log, &mut told);
-    print_records(out, log, told[1] as usize);
+    print_records(out, log.get(..told[1] as usize).unwrap_or(&[]));
     print_last(out, number, told[0], state[14]);
-    let sum = with_bytes(2166136261, log);
+    let sum = with_bytes(NO_BYTES, log);
     print_sum(out, with_numbers(sum, &state));
-}
-
-// The same with a log of so many bytes.
-fn replay(out: &impl Print, script: &[u8], room: usize) {
-    let mut log = [0xAAu8; LOG];
-    if let Some(part) = log.get_mut(..room) {
-        replay_on(out, script, part);
-    }
 }
 
 fn print_written(out: &impl Print, answer: Result<usize, Full>) {
@@ -119,21 +130,14 @@ fn print_written(out: &impl Print, answer: Result<usize, Full>) {
     }
 }
 
-fn write_on(out: &impl Print, item: Item, at: usize, buf: &mut [u8]) {
+// Writes an item at an offset of a buffer; the offset is a number of the list.
+fn write(out: &impl Print, item: Item, at: usize, buf: &mut [u8]) {
     let answer = match item {
         Item::Number(value) => script::write_number(buf, at, value),
         Item::Command(command) => script::write_command(buf, at, command),
     };
     print_written(out, answer);
-    print_sum(out, with_bytes(2166136261, buf));
-}
-
-// A write into a buffer of so many bytes.
-fn write(out: &impl Print, item: Item, at: usize, length: usize) {
-    let mut buf = [0xAAu8; 32];
-    if let Some(part) = buf.get_mut(..length) {
-        write_on(out, item, at, part);
-    }
+    print_sum(out, with_bytes(NO_BYTES, buf));
 }
 
 // The case that these bytes are, with the log's length before them. The kinds' numbers are the layout's, which the oracle writes too: they are read here alone.
@@ -178,8 +182,12 @@ fn split_case(list: &[u8]) -> Option<(Case<'_>, &[u8])> {
 // Does what a case asks for.
 fn run(out: &impl Print, case: Case<'_>) {
     match case {
-        Case::Play { script, room } => replay(out, script, room),
-        Case::Write { length, at, item } => write(out, item, at, length),
+        Case::Play { script, room } => {
+            with_room::<LOG, _>(room, |log| replay(out, script, log));
+        }
+        Case::Write { length, at, item } => {
+            with_room::<BUFFER, _>(length, |buf| write(out, item, at, buf));
+        }
         Case::Fits { length, at, count } => {
             put(
                 out,

@@ -22,11 +22,7 @@ fn bit(n: u8) -> char
     ensures value { result ≡ bit n }
     ensures ascii { result < 128 }
 {
-    match n {
-        0 => '0',
-        1 => '1',
-        _ => '?',
-    }
+    char::from_digit(u32::from(n), 2).unwrap_or('?')
 }
 
 // A transmit level: 2 is not driven, `-`.
@@ -37,7 +33,7 @@ fn level(n: u8) -> char
     if n == 2 { '-' } else { bit(n) }
 }
 
-// Appends a byte in two hexadecimal digits.
+// Appends a byte in two hexadecimal digits. Each text needs another amount of room, so the clause asks for it as the library's `push` does.
 #[tactic(auto, using(std::proofs::lemmas::Str::encode_ascii))]
 fn push_byte(line: &mut ArrayString<12>, byte: u8)
     requires { array_string_len line.old + 2 ≤ 12 }
@@ -91,7 +87,7 @@ pub fn refused_line(number: u8, offset: usize) -> ArrayString<64>
     line
 }
 
-// Appends the lines of records.
+// Appends the lines of records. The clause asks for room as the library's `push` does.
 fn push_records(out: &mut ArrayString<98368>, records: &[[u8; RECORD]])
     requires { array_string_len out.old + 12 * length records.now ≤ 98368 }
     ensures { out.new.bytes ≡ out.old.bytes ++ flat_map first_line records.now }

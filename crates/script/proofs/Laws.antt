@@ -89,25 +89,25 @@ group (suc (suc (suc (suc zero)))) b value h g e u w = omega arith
 group (suc (suc (suc (suc (suc k))))) b value h g e u w = absurd (omega arith)
 
 module _ (s : List ℕ) (at value scale more i : ℕ) (h : Reading s at value scale more i) where
-  -- `t` is the answer of the test `breaks` of the byte
-  module _ (g : i < length s) (t : Bool) (e : t ≡ breaks more (get_or s i 0)) where
+  -- `b` is the byte, and `t` the answer of the test `breaks` of it
+  module _ (g : i < length s) (b : ℕ) (r : b ≡ get_or s i 0) (t : Bool) (e : t ≡ breaks more b) where
     step : groups more i (drop i s) ≡
         cond t (Err NotANumber)
-        (cond (ltb (get_or s i 0) 128) (finds (get_or s i 0) (i + 1)) (with_group (get_or s i 0) (groups (more - 1) (i + 1) (drop (i + 1) s))))
-    step = rw (drop_next s i g, e)
+        (cond (ltb b 128) (finds b (i + 1)) (with_group b (groups (more - 1) (i + 1) (drop (i + 1) s))))
+    step = rw (drop_next s i g, ← r, e)
 
     module _ (f : t ≡ false) where
-      pub last_fits : get_or s i 0 < 128 → value + scale * get_or s i 0 < 4294967296
-      last_fits u = rw h.power (last_sum more (get_or s i 0) value h.left (rw h.power at h.below) (sym e ∙ f) u)
+      pub last_fits : b < 128 → value + scale * b < 4294967296
+      last_fits u = rw h.power (last_sum more b value h.left (rw h.power at h.below) (sym e ∙ f) u)
 
-      module _ (u : 128 ≤ get_or s i 0) (w : (k : ℕ) → Fits w8 (get_or s k 0)) where
-        pub read_group : Group value scale more (get_or s i 0)
-        read_group = rw h.power (group more (get_or s i 0) value h.left (rw h.power at h.below) (sym e ∙ f) u (omega (arith, w i)))
+      module _ (u : 128 ≤ b) (w : (k : ℕ) → Fits w8 (get_or s k 0)) where
+        pub read_group : Group value scale more b
+        read_group = rw h.power (group more b value h.left (rw h.power at h.below) (sym e ∙ f) u (omega (arith, r, w i)))
 
-        pub read_on : Reading s at (value + scale * (get_or s i 0 - 128)) (scale * 128) (more - 1) (i + 1)
+        pub read_on : Reading s at (value + scale * (b - 128)) (scale * 128) (more - 1) (i + 1)
         read_on =
             record {
-              so_far = h.so_far ∙ rw (step, f, le-ltb _ _ u) (shifted_on scale value (get_or s i 0) (groups (more - 1) (i + 1) (drop (i + 1) s)));
+              so_far = h.so_far ∙ rw (step, f, le-ltb _ _ u) (shifted_on scale value b (groups (more - 1) (i + 1) (drop (i + 1) s)));
               left = omega (arith, h.left);
               power = read_group.power;
               below = read_group.below;

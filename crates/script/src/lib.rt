@@ -65,7 +65,7 @@ pub fn read_number(s: &[u8], at: usize) -> Result<Found<u32>, Fault>
     let mut scale: u32 = 1;
     let mut more: u32 = 4;
     for i in at..s.len() {
-        let b = s[i] as u32;
+        let b = u32::from(s[i]);
         if breaks(more, b) {
             return Err(Fault::Number);
         }

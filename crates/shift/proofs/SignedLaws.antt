@@ -7,11 +7,10 @@ use Prim.Native.Nat.{ℕ, zero, suc, ◌+◌, ◌-◌, ◌^◌, ◌<◌, ◌≤�
 use native.Mathlib.Omega.{arith}
 use lib.Bits.{bit_or}
 use lib.Dec.{T, eqb, ltb, lit<, lit≤, le→leb}
-use lib.IntN.{ℤ, pos, negsuc, ◌+ℤ◌}
+use lib.IntN.{ℤ, pos, negsuc}
 use lib.Signed.{mag, lt_z, le_z}
 use mir.Syntax.{w8}
-use mir.Val.{to_z, of_z}
-use mir.Facts.{to_z-of_z}
+use mir.Val.{of_z}
 use borrow.Author.Tests.{eq-eqb, ne_eqb, eqb-true, eqb-false, leb-true, ltb-true, lt-ltb}
 use Rattle.frame.specs.declared.Format.{Format}
 use Rattle.frame.specs.Frame.{differ, one_if}
@@ -20,7 +19,7 @@ use Rattle.frame.proofs.Laws.{one_if≤}
 use Rattle.shift.specs.declared.Rx.{Rx}
 use Rattle.shift.specs.declared.Sampled.{Sampled}
 use Rattle.shift.specs.declared.Sampled.TheVariants.{Dropped, Onward, Whole}
-use Rattle.shift.specs.Receiver.{next_position, bit_at, started, stepped, stopped, sample_at, sample}
+use Rattle.shift.specs.Receiver.{bit_at, started, stepped, stopped, sample_at, sample}
 use Rattle.shift.specs.Valid.{position_valid}
 use Rattle.shift.specs.Private.Ready.{Placed, Shiftable, eqZ, falling, starting, in_data, at_parity}
 
@@ -42,9 +41,6 @@ bits_eq (negsuc m) (negsuc n) hz hk = eqb_same (256 - suc m) (256 - suc n) m n (
 pub bits_is : (z k : ℤ) (n : ℕ) → mag z < 128 → mag k < 128 → of_z w8 k ≡ n → eqb (of_z w8 z) n ≡ eqZ z k
 bits_is z k n hz hk e = ap (eqb (of_z w8 z)) (sym e) ∙ bits_eq z k hz hk
 
-pub bits_of : (z : ℤ) → mag z < 128 → to_z w8 (of_z w8 z) ≡ z
-bits_of z h = to_z-of_z {w = w8} (record { sfits = h })
-
 -- ---- a position in its place
 bound≤ : (s : Bool) (d k : ℕ) → d ≤ 8 → k ≤ 1 → cond s 7 (d + k) ≤ 9
 bound≤ true d k hd hk = lit≤ tt
@@ -57,13 +53,6 @@ place_mag (pos j) f hd e =
 place_mag (negsuc zero) f hd e = lit< tt
 place_mag (negsuc (suc zero)) f hd e = lit< tt
 place_mag (negsuc (suc (suc n))) f hd e = absurd (false≢true e)
-
-plus_one : (z : ℤ) → z +ℤ pos 1 ≡ next_position z
-plus_one (pos n) = let e : n + 1 ≡ suc n = omega arith in ap pos e
-plus_one (negsuc zero) = refl
-plus_one (negsuc (suc n)) =
-    let e : suc (suc n) - 2 ≡ n = omega arith in
-    ap (λ (b : Bool). cond b (negsuc (suc (suc n) - 2)) (pos (1 - suc (suc n)))) (lt-ltb 1 (suc (suc n)) (omega arith)) ∙ ap negsuc e
 
 -- ---- where a position lies
 -- a data cell: from zero, and below eight

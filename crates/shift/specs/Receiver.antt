@@ -10,10 +10,13 @@ use Rattle.shift.specs.declared.Sampled.TheVariants.{Dropped, Onward, Whole}
 use Rattle.shift.specs.Due.{due_now}
 
 -- ---- a word in the receiver, at its sample
+-- a word of which nothing has been received
+abbrev pub empty_word : Format → ℤ → Option ℕ → Rx
+empty_word f z next = record { format = f; value = 0; position = z; parity = false; error = 0; next = next }
+
 -- a new word, which waits for the next falling phase at position -2
 abbrev pub armed : Format → ℕ → Rx
-armed f next =
-    record { format = f; value = 0; position = negsuc (suc zero); parity = false; error = 0; next = Some next }
+armed f next = empty_word f (negsuc (suc zero)) (Some next)
 
 -- the falling phase: the start cell begins in the present format, and is sampled in its middle at position -1
 abbrev pub started : Format → ℕ → Rx → Rx
@@ -65,7 +68,7 @@ sample now high half r = sample_at r.position now high half r
 
 -- ---- a clocked word: a new one, and a bit of it taken
 abbrev pub clocked_word : Format → Rx
-clocked_word f = record { format = f; value = 0; position = pos 0; parity = false; error = 0; next = None }
+clocked_word f = empty_word f (pos 0) None
 
 abbrev pub bit_taken : Bool → Rx → Rx
 bit_taken high r =

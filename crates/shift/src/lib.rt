@@ -5,8 +5,8 @@
 ghost use Rattle.std.specs.Prelude.{◌≡◌, ◌&&◌, ◌≤◌};
 ghost use Rattle.shift.specs.Due.{within};
 ghost use Rattle.shift.specs.Sender.{tx_next, tx_clocked};
-ghost use Rattle.shift.specs.Receiver.{armed, parity_error, framing_error, stopped, clocked_word, last_bit};
-ghost use Rattle.shift.specs.Valid.{due_at, due_either, due_by, character_valid, cell_valid, tx_valid, position_valid, word_in_place};
+ghost use Rattle.shift.specs.Receiver.{empty_word, armed, parity_error, framing_error, stopped, clocked_word, last_bit, rx_next, rx_clocked};
+ghost use Rattle.shift.specs.Valid.{due_at, due_either, due_by, character_valid, cell_valid, tx_valid, position_valid, word_in_place, rx_valid};
 ghost use Rattle.shift.specs.Private.Ready.{falling, starting};
 
 use frame::Format;
@@ -43,7 +43,8 @@ pub enum Tx {
     },
 }
 
-// A word being received. Position: -2 waits for a falling phase, -1 for the middle of the start cell.
+// A word being received. Position: -2 waits for a falling phase, -1 for the middle of the start cell, from 0 on it is the cell's number. The field test's
+// bounds are of the signed number and C is told it, so it is no enum.
 #[derive(Clone, Copy, Debug, PartialEq, Eq)]
 pub struct Rx {
     pub format: Format,
@@ -62,7 +63,8 @@ pub enum Sampled {
     Whole(Rx),
 }
 
-// The halves up to a due half ahead, at most left.
+// The halves up to a due half ahead, at most left. A due half and the half count stand apart in the port, here and in the field test: a struct of both would
+// be made for each call.
 pub fn within(due: Option<u32>, half: u32, left: u32) -> u32
     ensures { result ≡ within due half left }
 {
@@ -96,7 +98,8 @@ impl Tx {
 }
 
 impl Rx {
-    // The position is touched in these, and in the crate port's functions of a received word: everything else asks them.
+    // The position is touched in these, and in the crate port's functions of a received word: everything else asks them. One test against a number in
+    // place of three would put the numbers where the names now stand.
     pub fn falling(self) -> bool
         ensures { result ≡ falling self }
     {
@@ -115,32 +118,32 @@ impl Rx {
         self.position == 7
     }
 
-    // A new word, which waits for the next falling phase.
-    pub fn armed(format: Format, next: u32) -> Self
-        ensures { result ≡ armed format next }
+    // A word of which nothing has been received.
+    fn empty(format: Format, position: i8, next: Option<u32>) -> Self
+        ensures { result ≡ empty_word format position next }
     {
         Self {
             format,
             value: 0,
-            position: -2,
+            position,
             parity: false,
             error: 0,
-            next: Some(next),
+            next,
         }
+    }
+
+    // A new word, which waits for the next falling phase.
+    pub fn armed(format: Format, next: u32) -> Self
+        ensures { result ≡ armed format next }
+    {
+        Self::empty(format, -2, Some(next))
     }
 
     // A new word of clocked form.
     pub fn clocked(format: Format) -> Self
         ensures { result ≡ clocked_word format }
     {
-        Self {
-            format,
-            value: 0,
-            position: 0,
-            parity: false,
-            error: 0,
-            next: None,
-        }
+        Self::empty(format, 0, None)
     }
 
     pub fn parity_error(self, high: bool) -> u8
@@ -170,6 +173,21 @@ impl Rx {
     }
 }
 
+// ---- the receiver: a word or none
+// The half on which it acts next.
+pub fn rx_next(rx: Option<Rx>) -> Option<u32>
+    ensures { result ≡ rx_next rx }
+{
+    rx.and_then(|rx| rx.next)
+}
+
+// Whether a clocked word is being received.
+pub fn rx_synchronous(rx: Option<Rx>) -> bool
+    ensures { result ≡ rx_clocked rx }
+{
+    rx.is_some_and(|rx| rx.format.synchronous)
+}
+
 // ---- the field test
 // Whether a due half is 1 to 448 above the half count. In 64 bits, since no half count is ruled out yet.
 fn due_at(half: u32, n: u32) -> bool
@@ -178,7 +196,7 @@ fn due_at(half: u32, n: u32) -> bool
     (half < n) & (u64::from(n) <= u64::from(half) + 448)
 }
 
-// Present or not.
+// Present or not. The two halves stand apart in the port, as in `within`.
 pub fn due_valid(due: Option<u32>, half: u32) -> bool
     ensures { result ≡ due_either due half }
 {
@@ -211,6 +229,7 @@ impl Character {
         u32::from(cell) < end
     }
 
+    // A character and its cell stand apart in the sender's states: a struct of both would be made for each call.
     fn data_valid(self, cell: u8, next: Option<u32>, half: u32) -> bool
         ensures { result ≡ (character_valid self && (cell_valid self.format cell && due_by next self.format.synchronous half)) }
     {
@@ -262,4 +281,11 @@ impl Rx {
         let due = due_valid_for(self.next, self.format.synchronous, half);
         self.position_valid() & (matches!(self.error, 0 | 8) & due)
     }
+}
+
+// Whether the word, if there is one, passes it.
+pub fn rx_valid(rx: Option<Rx>, half: u32) -> bool
+    ensures { result ≡ rx_valid rx half }
+{
+    rx.is_none_or(|rx| rx.valid(half))
 }

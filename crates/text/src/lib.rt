@@ -1,5 +1,6 @@
 // Text of a fixed greatest length: numbers in decimal, hexadecimal digits. Every program's text is made of these.
-// What is appended is `push_str` of `ArrayString`, which asks for room; a caller knows the greatest length of its texts.
+// What is appended is `push_str` of `ArrayString`, which asks for room; a caller knows the greatest length of its texts. Each function needs another
+// amount, so its clause asks for room as `push` does.
 #![tactic(auto)]
 
 ghost use Rattle.std.specs.Prelude.{◌≡◌, ◌+◌, ◌≤◌, ◌<◌, ◌++◌};
@@ -9,12 +10,12 @@ ghost use Rattle.text.specs.Text.{hex_digit};
 
 use arrayvec::ArrayString;
 
-// A hexadecimal digit; `?` above 15.
+// A hexadecimal digit; `?` above 15. That it takes one byte is a clause here and in report: a type of such characters would be taken apart at each push.
 pub fn hex_digit(n: u8) -> char
     ensures value { result ≡ hex_digit n }
     ensures ascii { result < 128 }
 {
-    match char::from_digit(n as u32, 16) {
+    match char::from_digit(u32::from(n), 16) {
         Some(digit) => digit.to_ascii_uppercase(),
         None => '?',
     }

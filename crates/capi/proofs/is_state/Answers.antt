@@ -1,23 +1,12 @@
-use Rattle.std.proofs.Common.{rules, sym, ◌∙◌}
-use Rattle.capi.specs.State.{port_max, fits}
-use Rattle.capi.proofs.Fits.{fits_short, fits_on, fits_not, fits_end, none_left}
+use Rattle.std.proofs.Common.{rules, tests}
+use Rattle.std.proofs.lemmas.Iterator.{YieldsList-from_slice, YieldsList-from_zip}
+use Rattle.std.proofs.lemmas.Iterator.Search.{all_from_yields_List}
+use lib.Dec.{leb}
+use Rattle.capi.specs.State.{port_max}
+use Rattle.capi.proofs.Fits.{fits_each}
 use Rattle.capi.proofs.is_state.Goals as goal
 
-pub returns-then-s-ne-STATE : goal.returns-then-s-ne-STATE
-returns-then-s-ne-STATE c = fits_short port_max c.args.s.now c.if-s-ne-STATE.true
-
-pub loop-n-init : goal.loop-n-init
-unfolding fits
-loop-n-init c = (search rules, search rules)
-
-pub returns-then-n-most : goal.returns-then-n-most
-returns-then-n-most c =
-    let next = c.in-Some.ensures.steps in fits_not _ _ _ _ _ _ _ c.loop-n.invariant.0 next.1 next.0 c.if-n-most.true
-
-pub loop-n-preserved : goal.loop-n-preserved
-loop-n-preserved c =
-    let next = c.in-Some.ensures.steps in (fits_on _ _ _ _ _ _ _ c.loop-n.invariant.0 next.1 next.0 c.if-n-most.false, search rules)
-
-pub returns : goal.returns
-returns c =
-    fits_end _ _ c.loop-n.invariant.1 (none_left _ _ _ _ c.loop-n.invariant.1 c.in-None.ensures.steps) ∙ sym c.loop-n.invariant.0
+pub returns-then-s-eq-STATE : goal.returns-then-s-eq-STATE
+returns-then-s-eq-STATE c =
+    fits_each port_max c.args.s.now c.all.result c.if-s-eq-STATE.true
+    (all_from_yields_List (λ p. leb p.0 p.1) c.all.new.self _ _ c.all.ensures.ran (YieldsList-from_zip (YieldsList-from_slice c.args.s.now cc) (YieldsList-from_slice port_max cc)) (λ x b q k. search (rules, tests)))

@@ -2,11 +2,9 @@
 -- nothing happens are skipped (sci.rs: `deadline` and `step_to`). No public contract cites this file; proofs/Skip.antt proves that it makes of a port what
 -- the halves of Half.antt make of it one by one.
 -- Assumes nothing.
-use Rattle.std.specs.Prelude.{◌≡◌, ℕ, zero, suc, ◌+◌, ◌%◌, Bool, true, false, cond, not, ◌&&◌, ◌==◌, nat_lt, Option, None, Some, is_none, is_some}
+use Rattle.std.specs.Prelude.{◌≡◌, ℕ, zero, suc, ◌+◌, ◌%◌, Bool, true, false, cond, not, ◌&&◌, ◌==◌, Option, None, Some, is_none}
 use Rattle.frame.specs.Frame.{differ}
 use Rattle.shift.specs.Due.{due_now, within}
-use Rattle.shift.specs.declared.Tx.{Tx}
-use Rattle.shift.specs.declared.Tx.TheVariants.{Off, Blocked, Mark, Start, Data, Tail}
 use Rattle.shift.specs.Sender.{tx_next}
 use Rattle.shift.specs.Receiver.{rx_next}
 use Rattle.port.specs.declared.Port.{Port}
@@ -26,15 +24,6 @@ arms_on (Some r) p = false
 unfoldable pub nothing_due : Port → Bool
 nothing_due p = not (due_now (tx_next p.tx) p.half) && (not (due_now (rx_next p.rx) p.half) && not (arms_on p.rx p))
 
--- the sender may begin a word: a byte is held, or a word is blocked
-abbrev pub starts_on : Tx → Port → Bool
-starts_on Off p = is_some p.holding
-starts_on (Blocked ch) p = true
-starts_on (Mark next) p = false
-starts_on (Start ch next) p = false
-starts_on (Data ch cell next) p = false
-starts_on (Tail l next) p = false
-
 -- on the internal clock, the clock of clocked form is as `refresh_sync_clock` leaves it
 unfoldable pub clock_fresh : Port → Bool
 clock_fresh p = cond (sync_needed p) (not (is_none p.sync_next)) (is_none p.sync_next && p.sck)
@@ -50,12 +39,6 @@ deadline left p =
 -- k halves counted at once, k not 0
 unfoldable pub counted_by : ℕ → Port → Port
 counted_by k p = with_edge (with_high (with_half p (p.half + k)) (differ p.high (not (k % 2 == 0)))) true
-
--- n halves to come, of which all only count
-unfoldable pub idle_for : ℕ → Port → Bool
-idle_for n p =
-    not (arms_on p.rx p) && (clock_fresh p
-    && (nat_lt n (within (tx_next p.tx) p.half (n + 1)) && (nat_lt n (within (rx_next p.rx) p.half (n + 1)) && nat_lt n (within p.sync_next p.half (n + 1)))))
 
 -- ---- an edge of the basic clock, counted: a half of the internal one, or an edge of the clock pin to a level, `pin`
 -- the port's own clock toggles; an edge of the pin leaves it as it is

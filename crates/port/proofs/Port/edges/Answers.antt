@@ -1,13 +1,17 @@
-use Rattle.std.proofs.Common.{refl, ◌∙◌, arith}
+use Rattle.std.proofs.Common.{◌≤◌, refl, ◌∙◌, arith}
 use Rattle.port.proofs.Skip.{goes_in, deadline_bounds, counted_goes, goes_on, edges_on, edges_none}
 use Rattle.port.proofs.Port.edges.Goals as goal
+
+-- an edge at least is taken, and no more than are left
+bounds : (c : goal.After-deadline-k) → (1 ≤ c.deadline-k.result) × (c.deadline-k.result ≤ c.loop-left.left)
+bounds c = deadline_bounds c.loop-left.port c.loop-left.left c.deadline-k.result (omega arith) c.deadline-k.ensures
 
 pub loop-left-init : goal.loop-left-init
 loop-left-init c = (refl, goes_in c.args.pin c.args.n c.args.self c.requires)
 
 pub counted_by-requires : goal.counted_by-requires
 counted_by-requires c =
-    let b = deadline_bounds c.loop-left.port c.loop-left.left c.deadline-k.result (omega arith) c.deadline-k.ensures in
+    let b = bounds c in
     omega (arith, b.1, c.loop-left.invariant.1.1)
 
 pub advance-port-requires : goal.advance-port-requires
@@ -16,11 +20,11 @@ advance-port-requires c =
     counted_goes c.args.pin v.port c.counted_by.result v.port v.left c.deadline-k.result (omega arith) v.invariant.1 c.deadline-k.ensures c.counted_by.ensures
 
 pub overflow_sub-left : goal.overflow_sub-left
-overflow_sub-left c = (deadline_bounds c.loop-left.port c.loop-left.left c.deadline-k.result (omega arith) c.deadline-k.ensures).1
+overflow_sub-left c = (bounds c.before.before).1
 
 pub loop-left-smaller : goal.loop-left-smaller
 loop-left-smaller c =
-    let b = deadline_bounds c.loop-left.port c.loop-left.left c.deadline-k.result (omega arith) c.deadline-k.ensures in
+    let b = bounds c.before.before in
     omega (arith, b.0, b.1)
 
 pub loop-left-preserved : goal.loop-left-preserved

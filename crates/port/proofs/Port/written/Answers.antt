@@ -1,7 +1,8 @@
+use Rattle.port.specs.Registers.{address}
 use Rattle.port.proofs.Keep.{stored_ready, connect_ready}
 use Rattle.port.proofs.Port.written.Goals as goal
 
 pub after_store-requires : goal.after_store-requires
 after_store-requires c =
     connect_ready c.connect.result c.stored.result c.external-external.result c.connect.ensures
-    (stored_ready c.stored.result c.args.self c.args.a c.args.v c.stored.ensures c.requires)
+    (stored_ready c.stored.result c.args.self (address c.args.register) c.args.v c.stored.ensures c.requires)
