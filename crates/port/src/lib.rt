@@ -90,6 +90,8 @@ pub struct Called {
 }
 
 // ---- a word on its way
+// What these ask of a word or a format (`Placed`, `Bounded`, `Shiftable`) their sums and shifts need; a type that holds it would put a name before each field.
+// Character and cell come apart, as the sender's states have them: a struct would be made for each call. So it is in `next_cell` and `bit_out`.
 // The level of a cell of the word.
 fn level(character: Character, cell: u8) -> bool
     requires { cell ≤ 15 }
