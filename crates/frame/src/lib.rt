@@ -2,13 +2,14 @@
 #![tactic(auto)]
 
 ghost use Rattle.std.specs.Prelude.{◌≡◌, true, cond, ◌&&◌, ◌+◌, ◌≤◌, ◌-◌, ◌^◌};
-ghost use Rattle.frame.specs.Frame.{has, one_if, format, stop, cells, word, format_valid, data_of, word_valid};
+ghost use Rattle.frame.specs.Frame.{has, format, stop, cells, word, format_valid, data_of, word_valid};
 
 #[derive(Clone, Copy, Debug, PartialEq, Eq)]
 pub struct Format {
     pub synchronous: bool,
     pub data: u8,
     pub parity: bool,
+    // Kept without a parity cell too: SMR's bit is latched, and C has a place for it. So the two are no `Option`.
     pub odd: bool,
     pub stops: u8,
     pub half_bit: u32,

@@ -1,4 +1,4 @@
--- What the proofs of the port's steps hand to `search`, beside the generated clauses and congruences.
+-- What the proofs of the port's steps hand to `search`.
 -- Assumes nothing.
 use Rattle.std.proofs.Common.{◌≡◌, ℕ, ◌*◌, ◌≤◌, Bool, true, cond, sym, ap, ◌∙◌, le_trans, mul-le-mul_right, mul-le-mul_left}
 use Rattle.frame.specs.declared.Format.{Format}

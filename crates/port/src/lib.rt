@@ -238,8 +238,8 @@ impl Default for Port {
     }
 }
 
-// What a step asks of the port (`half ≤ limit`, `Sendable`, `PlacedIn`, `Ready`) is what its own sums and shifts need. `Port` cannot hold it: C may give one of
-// any half count. A type around the port can (tried), but it would put `.port` before each field that a step names, and into each clause.
+// What a step asks of the port (`half ≤ limit`, `Sendable`, `PlacedIn`, `Ready`), of a word or a format is what its own sums and shifts need. `Port` cannot
+// hold it: C may give one of any half count. A type around the port can (tried), but it would put `.port` before each field that a step names.
 impl Port {
     #[tactic(auto, using(crate::proofs::Steps::valid_bounded))]
     fn format(self) -> Format

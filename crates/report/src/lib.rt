@@ -25,7 +25,7 @@ fn bit(n: u8) -> char
     char::from_digit(u32::from(n), 2).unwrap_or('?')
 }
 
-// A transmit level: 2 is not driven, `-`.
+// A transmit level: 2 is not driven, `-`. It is a byte of a record, as the log has it.
 fn level(n: u8) -> char
     ensures value { result ≡ level n }
     ensures ascii { result < 128 }

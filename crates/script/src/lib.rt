@@ -56,7 +56,7 @@ fn breaks(more: u32, b: u32) -> bool
     (more < 4) & (b == 0) | (more == 0) & (15 < b)
 }
 
-// The number at an offset of the script; `more` bytes may follow the byte at `i`.
+// The number at an offset of the script; `more` bytes may follow the byte at `i`. The index is kept, since the offset after the last byte is an answer.
 #[tactic(auto, using(crate::proofs::Laws::last_fits))]
 pub fn read_number(s: &[u8], at: usize) -> Result<Found<u32>, Fault>
     ensures { result ≡ number_at s.now at }
@@ -148,7 +148,7 @@ fn size(v: u32) -> usize
     }
 }
 
-// Writes a number at the front of the buffer, in at most `more` bytes after the first.
+// Writes a number at the front of the buffer, in at most `more` bytes after the first, and gives how many: the buffer is lent, and longer.
 fn put_groups(buf: &mut [u8], v: u32, more: u32) -> usize
     requires { (v < 16 * 128 ^ more) × (length (encode_in more v) ≤ length buf.old) }
     ensures { (result ≡ length (encode_in more v)) × (buf.new ≡ encode_in more v ++ drop (length (encode_in more v)) buf.old) }
