@@ -66,10 +66,11 @@ uint64_t sci3_interrupt(const uint64_t *state, size_t length);
 
 /* Plays a script and writes a record to the log for each command that was played: 0 where the whole script was
  * accepted, else the number of the refusal. told[0] is the offset of the refused command's first byte, else 0; told[1]
- * how many bytes of the log are written; no other byte of the log is touched. The array holds the last port, after a
- * refusal the one before the refused command; by 8 it is as it was. */
+ * how many bytes of the log are written, and no other byte of the log is touched; told[2] the run's length: the edges
+ * of the clock that its commands counted, across resets, in 64 bits that wrap to 0. The array holds the last port,
+ * after a refusal the one before the refused command; by 8 it is as it was. */
 uint64_t sci3_play(uint64_t *state, size_t state_length, const uint8_t *script, size_t script_length, uint8_t *log,
-                   size_t log_length, uint64_t told[2]);
+                   size_t log_length, uint64_t told[3]);
 
 #ifdef __cplusplus
 }

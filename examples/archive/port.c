@@ -32,8 +32,9 @@ static void put_word(uint64_t *state, unsigned value) {
 }
 
 int main(void) {
-    static const uint8_t script[] = {0x01, 0x9c, 0xff, 0x03, 0x07, 0x08};
-    uint64_t state[SCI3_STATE] = {0}, told[2] = {0};
+    /* SSR is read, 9 halves pass, the module goes off, and 08 is no kind. */
+    static const uint8_t script[] = {0x01, 0x9c, 0xff, 0x03, 0x03, 0x09, 0x06, 0x00, 0x08};
+    uint64_t state[SCI3_STATE] = {0}, told[3] = {0};
     uint8_t log[SCI3_RECORD * 8] = {0};
 
     if (sci3_fresh(state, SCI3_STATE) != 0) return 1;
@@ -50,6 +51,7 @@ int main(void) {
     for (uint64_t i = 0; i < told[1]; i++) {
         printf("%02X%c", log[i], i % SCI3_RECORD == SCI3_RECORD - 1 ? '\n' : ' ');
     }
-    printf("script: number %u at %u\n", (unsigned)number, (unsigned)told[0]);
+    printf("script: number %u at %u, length %llu, half %u\n", (unsigned)number, (unsigned)told[0],
+           (unsigned long long)told[2], (unsigned)state[SCI3_HALF]);
     return 0;
 }

@@ -8,7 +8,7 @@ mod sci3 {
     pub const RECORD: usize = 5;
     const REFUSED: u64 = 256;
 
-    // A lent slice is its address and its length; `told` is always two numbers.
+    // A lent slice is its address and its length; `told` is always three numbers.
     unsafe extern "C" {
         fn sci3_fresh(state: *mut u64, length: usize) -> u64;
         fn sci3_call(state: *mut u64, length: usize, kind: u32, a: u32, b: u32) -> u64;
@@ -31,6 +31,7 @@ mod sci3 {
         pub number: u64,
         pub offset: u64,
         pub used: usize,
+        pub length: u64,
     }
 
     // Safe throughout: each address and length are those of one array that is lent for the call only.
@@ -58,7 +59,7 @@ mod sci3 {
             self.0[5]
         }
         pub fn play(&mut self, script: &[u8], log: &mut [u8]) -> Played {
-            let mut told = [0; 2];
+            let mut told = [0; 3];
             let number = unsafe {
                 sci3_play(
                     self.0.as_mut_ptr(),
@@ -70,7 +71,7 @@ mod sci3 {
                     told.as_mut_ptr(),
                 )
             };
-            Played { number, offset: told[0], used: told[1] as usize }
+            Played { number, offset: told[0], used: told[1] as usize, length: told[2] }
         }
     }
 }
@@ -123,10 +124,11 @@ fn main() {
     call(&mut port, READ, 0x1234, 0);
 
     let mut log = [0; sci3::RECORD * 8];
-    let played = port.play(&[0x01, 0x9c, 0xff, 0x03, 0x07, 0x08], &mut log);
+    // SSR is read, 9 halves pass, the module goes off, and 08 is no kind.
+    let played = port.play(&[0x01, 0x9c, 0xff, 0x03, 0x03, 0x09, 0x06, 0x00, 0x08], &mut log);
     for record in log[..played.used].chunks(sci3::RECORD) {
         let bytes: Vec<String> = record.iter().map(|byte| format!("{byte:02X}")).collect();
         println!("{}", bytes.join(" "));
     }
-    println!("script: number {} at {}", played.number, played.offset);
+    println!("script: number {} at {}, length {}, half {}", played.number, played.offset, played.length, port.half());
 }

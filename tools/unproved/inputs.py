@@ -188,7 +188,8 @@ class Inputs:
         self.add([self.on(r, altered(r, s)) for s in states * 2])
         self.add([Question(form, length=n) for form in ("script", "calls", "sci3_fresh") for n in (52, 54, 53)])
         self.add([Question(form, ((name, most + 1),)) for form in ("script", "calls") for name, most in zip(PLACES, MOST) if most < 2**64 - 1])
-        self.add([Question(form) for form in FUNCTIONS] + [self.of(r, form) for form in FUNCTIONS for _ in range(500)])
+        self.add([Question(form) for form in FUNCTIONS] + [self.of(r, form) for form in FUNCTIONS if form != "long" for _ in range(500)])
+        self.add([Question("long", (("waits", n),)) for n in (1, 32768, 32769)])
 
     def add(self, questions):
         packed = [q.packed() for q in questions]

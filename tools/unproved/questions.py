@@ -6,6 +6,7 @@
     printout 06 03                              what the program prints for the script
     sci3_fresh length=54                        an array of 54 numbers
     within due=1 next=5 half=5 left=3           a function of a crate; arguments that are 0 are left out
+    long waits=3                                a script of 3 waits of 65535 halves, a power cycle and as many again
 
 Numbers of a script are hexadecimal bytes, `07*300` is a byte 300 times; all other numbers are decimal. An enum is its number and its values, as in the
 exported array (crates/capi/specs/State.antt)."""
@@ -38,7 +39,7 @@ ARRAY = [*PLACES, "place 53"]  # of an array that is one number too long
 READ = ("fault", "value", "next")
 FUNCTIONS = {
     "record_line": (5, ("kind", "answer", "ssr", "level", "interrupt"), "text"),
-    "end_line": (6, ("halves",), "text"),
+    "end_line": (6, ("length",), "text"),
     "refused_line": (7, ("number", "offset"), "text"),
     "hex_digit": (8, ("n",), ("digit",)),
     "read_number": (9, ("at",), READ),
@@ -76,6 +77,7 @@ FUNCTIONS = {
     "rx_next": (41, ("tag", *RX), DUE),
     "rx_synchronous": (42, ("tag", *RX), ("clocked",)),
     "rx_valid": (43, ("tag", *RX, "half"), ("valid",)),
+    "long": (44, ("waits",), ("number", "length")),
 }
 OPERANDS = {1: 1, 2: 2, 3: 1, 4: 1, 5: 2, 6: 1}
 LOG = 240
@@ -234,16 +236,17 @@ def answered(question, answer):
 
 
 def of_script(question, answer):
-    numbers = struct.unpack_from(f"<{3 + question.length}Q", answer)
+    numbers = struct.unpack_from(f"<{4 + question.length}Q", answer)
     log = answer[8 * len(numbers):]
-    end, at, used = numbers[:3]
+    end, at, used, length = numbers[:4]
     whole = min(used, len(log)) // 5
     return [
         *((f"record {i + 1}", record(log[5 * i:5 * i + 5])) for i in range(whole)),
         ("its end", f"refused {end} at {at}" if end else "end" if at == 0 else f"end at {at}"),
         ("used", used),
+        ("its length", length),
         *((f"log byte {i}", b) for i, b in enumerate(log)),
-        *zip(ARRAY, numbers[3:]),
+        *zip(ARRAY, numbers[4:]),
     ]
 
 

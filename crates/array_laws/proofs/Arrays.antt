@@ -18,7 +18,7 @@ use Rattle.port.specs.Calls.{Answer, done, refused, after, direct, run}
 use Rattle.port.specs.Power.{fresh}
 use Rattle.port.specs.Valid.{valid}
 use Rattle.machine.specs.Machine.{Run, ended, play_items}
-use Rattle.player.specs.Play.{room, items, act, play}
+use Rattle.player.specs.Play.{Progress, room, items, started, act, play}
 use Rattle.port_laws.specs.Laws.{RefusedStands}
 use Rattle.port_laws.specs.Ranges.{AnswersAByte}
 use Rattle.port_laws.proofs.Laws.{refused_stands}
@@ -55,13 +55,13 @@ abbrev Left : List ℕ → Port → List ℕ → Port → Type 0
 Left s p t q = ((t ≡ s) × (q ≡ p)) ⊎ (t ≡ encode q)
 
 -- a run that is refused by 8 leaves the port as it was
-at_8 : (p : Port) (script log : List ℕ) → (play p script log).number ≡ 8 → (play p script log).state ≡ p
+at_8 : (p : Port) (script log : List ℕ) → (play p script log).number ≡ 8 → (play p script log).state.port ≡ p
 unfolding play
 at_8 p script log z = go (valid p) refl
   where
-    go : (b : Bool) → valid p ≡ b → (play p script log).state ≡ p
+    go : (b : Bool) → valid p ≡ b → (play p script log).state.port ≡ p
     go true e = absurd (eight_at_entry_only p script log e z)
-    go false e = ap (λ (b : Bool). (cond b (play_items room act p (items script) log) (ended 8 0 p log)).state) e
+    go false e = ap (λ (b : Bool). (cond b (play_items room act (started p) (items script) log) (ended 8 0 (started p) log)).state.port) e
 
 module _ (s : List ℕ) (p : Port) (d : Holds s p) where
   on_call : (kind a b : ℕ) → call kind a b s
@@ -93,9 +93,9 @@ module _ (s : List ℕ) (p : Port) (d : Holds s p) where
       go true = answer_left c (direct c p) refl
       go false = both_arms (λ (l : Lent). Left s p l.state p) (valid p) (lent (refusal 7) s) (lent (refusal 8) s) (inl (refl, refl)) (inl (refl, refl))
   left (sci3_play script log) =
-      let r : Run Port = play p script log in
-      subst (λ (l : Playing). Left s p l.state r.state) (sym (on_play script log))
-      (by_cond (λ (t : List ℕ). Left s p t r.state) (eqb r.number 8) s (encode r.state) (λ e. inl (refl, at_8 p script log (eqb-true r.number 8 e))) (λ e. inr refl))
+      let r : Run Progress = play p script log in
+      subst (λ (l : Playing). Left s p l.state r.state.port) (sym (on_play script log))
+      (by_cond (λ (t : List ℕ). Left s p t r.state.port) (eqb r.number 8) s (encode r.state.port) (λ e. inl (refl, at_8 p script log (eqb-true r.number 8 e))) (λ e. inr refl))
 
   answers : valid p ≡ true → Answers s p
   unfolding DecodedTyped AnswersAByte pins_answer interrupt_answer
@@ -104,9 +104,9 @@ module _ (s : List ℕ) (p : Port) (d : Holds s p) where
         of_call = λ kind a b. on_call kind a b
             ∙ ap (λ (v : Bool). cond (leb 1 kind && leb kind 7) (call_left s (direct (command_of kind a b) p)) (cond v (lent (refusal 7) s) (lent (refusal 8) s))) e;
         of_read = λ c v q h. answers_a_byte c p q v (typed_in_range p (decoded_typed s p d)) h;
-        of_play = λ script log. let r : Run Port = play p script log in
+        of_play = λ script log. let r : Run Progress = play p script log in
             on_play script log
-            ∙ ap (λ (b : Bool). playing r.number (r.offset ∷ r.used ∷ []) (cond b s (encode r.state)) r.log) (ne_eqb r.number 8 (eight_at_entry_only p script log e));
+            ∙ ap (λ (b : Bool). playing r.number (r.offset ∷ r.used ∷ r.state.length ∷ []) (cond b s (encode r.state.port)) r.log) (ne_eqb r.number 8 (eight_at_entry_only p script log e));
         of_pins = ap pins_on d;
         of_interrupt = ap interrupt_on d;
       }
@@ -120,7 +120,7 @@ unfolding FailingRefused call play
 failing_refused s p d e = (
   λ kind a b. ap (call_on kind a b s) d
       ∙ ap (λ (v : Bool). cond v (cond (leb 1 kind && leb kind 7) (call_left s (direct (command_of kind a b) p)) (lent (refusal 7) s)) (lent (refusal 8) s)) e,
-  λ script log. on_play s p d script log ∙ ap (λ (v : Bool). run_left s (cond v (play_items room act p (items script) log) (ended 8 0 p log))) e,
+  λ script log. on_play s p d script log ∙ ap (λ (v : Bool). run_left s (cond v (play_items room act (started p) (items script) log) (ended 8 0 (started p) log))) e,
 )
 
 -- ---- actions keep a port typed

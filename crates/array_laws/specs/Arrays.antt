@@ -84,7 +84,7 @@ pub record Answers (s : List ℕ) (p : Port) : Type 0 where
   pub of_call : (kind a b : ℕ) → call kind a b s ≡ cond (leb 1 kind && leb kind 7) (call_left s (direct (command_of kind a b) p)) (lent (refusal 7) s)
   -- below 256, so that no value is taken for a refusal
   pub of_read : (c : Command) (v : ℕ) (q : Port) → direct c p ≡ done v q → v < 256
-  pub of_play : (script log : List ℕ) → let r = play p script log in played s script log ≡ playing r.number (r.offset ∷ r.used ∷ []) (encode r.state) r.log
+  pub of_play : (script log : List ℕ) → let r = play p script log in played s script log ≡ playing r.number (r.offset ∷ r.used ∷ r.state.length ∷ []) (encode r.state.port) r.log
   pub of_pins : pins_answer s ≡ pins_number (pins p)
   pub of_interrupt : interrupt_answer s ≡ one_if (interrupt p)
 
@@ -95,7 +95,7 @@ HoldingAnswers = (s : List ℕ) (p : Port) → Holds s p → valid p ≡ true �
 unfoldable pub FailingRefused : Type 0
 FailingRefused =
     (s : List ℕ) (p : Port) → Holds s p → valid p ≡ false
-    → ((kind a b : ℕ) → call kind a b s ≡ lent (refusal 8) s) × ((script log : List ℕ) → played s script log ≡ playing 8 (0 ∷ 0 ∷ []) s log)
+    → ((kind a b : ℕ) → call kind a b s ≡ lent (refusal 8) s) × ((script log : List ℕ) → played s script log ≡ playing 8 (0 ∷ 0 ∷ 0 ∷ []) s log)
 
 -- from `sci3_fresh` on the first of the two always
 unfoldable pub ArraysAnswer : Type 0

@@ -13,7 +13,7 @@ use Rattle.port.specs.Power.{fresh}
 use Rattle.port.specs.Valid.{valid}
 use Rattle.port.specs.declared.Port.{Port}
 use Rattle.machine.specs.Machine.{Run}
-use Rattle.player.specs.Play.{play}
+use Rattle.player.specs.Play.{Progress, play}
 use Rattle.capi.specs.State.{decode, encode, port_max}
 
 -- an answer, and the array after it
@@ -78,8 +78,8 @@ unfoldable pub fresh_state : List ℕ → Lent
 fresh_state s = cond (eqb (length s) (length port_max)) (lent 0 (encode fresh)) (lent (refusal 8) s)
 
 -- ---- sci3_play
--- document 01's number (0: accepted); told: the offset of the refused command's first byte, and how many bytes of the log are written; the array and the
--- log after the run
+-- document 01's number (0: accepted); told: the offset of the refused command's first byte, how many bytes of the log are written, and the run's length;
+-- the array and the log after the run
 pub record Playing : Type 0 where
   pub number : ℕ
   pub told : List ℕ
@@ -90,11 +90,11 @@ abbrev pub playing : ℕ → List ℕ → List ℕ → List ℕ → Playing
 playing n t s l = record { number = n; told = t; state = s; log = l }
 
 -- by 8 the array stays as it was
-abbrev pub run_left : List ℕ → Run Port → Playing
-run_left s r = playing r.number (r.offset ∷ r.used ∷ []) (cond (eqb r.number 8) s (encode r.state)) r.log
+abbrev pub run_left : List ℕ → Run Progress → Playing
+run_left s r = playing r.number (r.offset ∷ r.used ∷ r.state.length ∷ []) (cond (eqb r.number 8) s (encode r.state.port)) r.log
 
 abbrev pub play_on : List ℕ → List ℕ → List ℕ → Option Port → Playing
-play_on s script log None = playing 8 (0 ∷ 0 ∷ []) s log
+play_on s script log None = playing 8 (0 ∷ 0 ∷ 0 ∷ []) s log
 play_on s script log (Some p) = run_left s (play p script log)
 
 unfoldable pub played : List ℕ → List ℕ → List ℕ → Playing

@@ -586,17 +586,21 @@ fn put_state(s: &mut [u64], end: Result<(), Refused>, port: Port)
 }
 
 // Plays a script on the port in the array. The answer is document 01's number, 0 where the script was accepted; told are the offset of the refused
-// command's first byte, else 0, and how many bytes of the log are written.
+// command's first byte, else 0, how many bytes of the log are written, and the run's length.
 #[tactic(auto, unfolding(crate::specs::Exports::played))]
-pub fn sci3_play(state: &mut [u64], script: &[u8], log: &mut [u8], told: &mut [u64; 2]) -> u64
+pub fn sci3_play(state: &mut [u64], script: &[u8], log: &mut [u8], told: &mut [u64; 3]) -> u64
     ensures { playing result told.new state.new log.new ≡ played state.old script.now log.old }
 {
     let Some(port) = decode(state) else {
-        *told = [0, 0];
+        *told = [0, 0, 0];
         return Refusal::State as u64;
     };
     let run = player::play(port, script, log);
     put_state(state, run.end, run.port);
-    *told = [player::end_offset(run.end) as u64, run.used as u64];
+    *told = [
+        player::end_offset(run.end) as u64,
+        run.used as u64,
+        run.length,
+    ];
     u64::from(player::end_number(run.end))
 }

@@ -38,13 +38,13 @@ pub extern "C" fn sci3_fresh(state: &mut [u64]) -> u64
 }
 
 // Plays a script on the port in the array. The answer is document 01's number, 0 where the script was accepted; told are the offset of the refused
-// command's first byte, else 0, and how many bytes of the log are written.
+// command's first byte, else 0, how many bytes of the log are written, and the run's length.
 #[unsafe(no_mangle)]
 pub extern "C" fn sci3_play(
     state: &mut [u64],
     script: &[u8],
     log: &mut [u8],
-    told: &mut [u64; 2],
+    told: &mut [u64; 3],
 ) -> u64
     ensures { playing result told.new state.new log.new ≡ played state.old script.now log.old }
 {

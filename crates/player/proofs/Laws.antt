@@ -20,7 +20,9 @@ use Rattle.port.specs.Calls.{Answer, done, refused, called, direct, number, answ
 use Rattle.port.specs.Valid.{valid}
 use Rattle.pins.specs.Pins.{pins, level_number, interrupt}
 use Rattle.port_laws.specs.Laws.{AcceptedPasses}
+use Rattle.port_laws.specs.Edges.{edges}
 use Rattle.port_laws.proofs.Laws.{accepted_passes, refused_not_0}
+use Rattle.port_laws.proofs.Edges.{edges_by_half_count}
 use Rattle.script.specs.declared.Fault.{Fault}
 use Rattle.std.specs.Prelude.{OnErr}
 use Rattle.std.proofs.Common.{Result, Ok, Err}
@@ -33,7 +35,7 @@ use Rattle.machine.specs.Machine.{Act, acts, refuses, Run, ended, recorded, play
 use Rattle.machine.specs.Private.Step.{onward, stopped, met, step}
 use Rattle.machine.proofs.Turns.{GoesOn, goes_on, stands, finishes}
 use Rattle.player.specs.declared.Reason.{Reason}
-use Rattle.player.specs.Play.{record_length, record_of, room, act_of, act, play, ran}
+use Rattle.player.specs.Play.{Progress, record_length, record_of, room, started, longer, act_of, act, play, ran}
 use Rattle.player.specs.Private.Step.{stepped, port_step, play_on}
 
 -- ---- one command
@@ -44,19 +46,19 @@ unfolding pins
 record_made c v p x k l i b ek ex el eb ei = rw (ek, ei, from_bool_is b, eb, el, ex)
 
 -- commands write as much as they need, and no refusal is 0
-abbrev Fills : Act Port → Type 0
+abbrev Fills : Act Progress → Type 0
 Fills (acts bs q) = length bs ≡ record_length
 Fills (refuses n) = n ≡ 0 → ⊥
 
-fills_of : (c : Command) (p : Port) (a : Answer) → direct c p ≡ a → Fills (act_of c a)
+fills_of : (c : Command) (p : Progress) (a : Answer) → direct c p.port ≡ a → Fills (act_of c p a)
 fills_of c p (done v q) e = refl
-fills_of c p (refused n offset q) e = refused_not_0 c p q n offset e
+fills_of c p (refused n offset q) e = refused_not_0 c p.port q n offset e
 
 pub sound : Sound room act
 sound = record {
   some = λ c. omega arith;
-  fills = λ c p q bs e. subst Fills e (fills_of c p (direct c p) refl);
-  refusals = λ c p n e. subst Fills e (fills_of c p (direct c p) refl);
+  fills = λ c p q bs e. subst Fills e (fills_of c p (direct c p.port) refl);
+  refusals = λ c p n e. subst Fills e (fills_of c p (direct c p.port) refl);
 }
 
 -- a port that passes the field test is called at once
@@ -64,7 +66,16 @@ pub passed : (c : Command) (p : Port) → valid p ≡ true → direct c p ≡ ca
 unfolding direct
 passed c p h = cond_true (valid p) _ _ h
 
-module _ (p : Port) (s : List ℕ) (at : ℕ) (log : List ℕ) where
+-- the port after a command that was played passes the field test
+pub step_passes : (c : Command) (p : Port) (r : Called) → valid p ≡ true → answer p (Ok r) ≡ called c p → valid r.port ≡ true
+unfolding AcceptedPasses
+step_passes c p r t e = accepted_passes c p r.port r.value (passed c p t ∙ sym e)
+
+-- and the edges that it counted are what the half count grew by
+pub step_edges : (c : Command) (p : Port) (r : Called) → valid p ≡ true → answer p (Ok r) ≡ called c p → r.port.half - p.half ≡ edges c p
+step_edges c p r t e = sym (edges_by_half_count c p r.port r.value (passed c p t ∙ sym e))
+
+module _ (p : Progress) (s : List ℕ) (at : ℕ) (log : List ℕ) where
   full : (d : Reads Command) → length log < record_length → stopped 9 log ≡ met room act p log (reading record_length d)
   full (Ok found) h = rw (lt-ltb (length log) record_length h)
   full (Err why) h = rw (lt-ltb (length log) record_length h)
@@ -77,33 +88,30 @@ module _ (p : Port) (s : List ℕ) (at : ℕ) (log : List ℕ) where
   unfolding port_step step
   step_fault f h d = rw (d, le-ltb (length log) record_length h)
 
-  pub step_refused : (c : Command) (next : ℕ) (r : Refusal) → valid p ≡ true → record_length ≤ length log →
-      command_at s at ≡ finds c next → answer p (Err r) ≡ called c p → stopped (number r) log ≡ port_step p s at log
+  pub step_refused : (c : Command) (next : ℕ) (r : Refusal) → valid p.port ≡ true → record_length ≤ length log →
+      command_at s at ≡ finds c next → answer p.port (Err r) ≡ called c p.port → stopped (number r) log ≡ port_step p s at log
   unfolding port_step step
-  step_refused c next r v h d e = rw (d, le-ltb (length log) record_length h, passed c p v, ← e)
+  step_refused c next r v h d e = rw (d, le-ltb (length log) record_length h, passed c p.port v, ← e)
 
-  pub step_onward : (c : Command) (next : ℕ) (r : Called) (after : List ℕ) → valid p ≡ true → record_length ≤ length log →
-      command_at s at ≡ finds c next → answer p (Ok r) ≡ called c p → after ≡ record_of c r.value r.port ++ drop record_length log →
-      onward r.port next record_length after ≡ port_step p s at log
+  pub step_onward : (c : Command) (next n : ℕ) (r : Called) (after : List ℕ) → valid p.port ≡ true → record_length ≤ length log →
+      command_at s at ≡ finds c next → answer p.port (Ok r) ≡ called c p.port → n ≡ longer p.length (r.port.half - p.port.half) →
+      after ≡ record_of c r.value r.port ++ drop record_length log →
+      onward (record { port = r.port; length = n }) next record_length after ≡ port_step p s at log
   unfolding port_step step
-  step_onward c next r after t h d e w = rw (d, le-ltb (length log) record_length h, passed c p t, ← e, w)
-
-  -- the port after a command that was played passes the field test
-  pub step_passes : (c : Command) (r : Called) → valid p ≡ true → answer p (Ok r) ≡ called c p → valid r.port ≡ true
-  unfolding AcceptedPasses
-  step_passes c r t e = accepted_passes c p r.port r.value (passed c p t ∙ sym e)
+  step_onward c next n r after t h d e l w =
+      rw (d, le-ltb (length log) record_length h, passed c p.port t, ← e, w, l, step_edges c p.port r t e)
 
 -- ---- a turn of the loop
 
 -- the run from an offset on
-abbrev pub from_at : Port → List ℕ → ℕ → List ℕ → Run Port
+abbrev pub from_at : Progress → List ℕ → ℕ → List ℕ → Run Progress
 from_at p s at log = play_items room act p (script_items record_length s at) log
 
-abbrev pub Goes : Run Port → ℕ → List ℕ → ℕ → List ℕ → List ℕ → Port → ℕ → Type 0
+abbrev pub Goes : Run Progress → ℕ → List ℕ → ℕ → List ℕ → List ℕ → Progress → ℕ → Type 0
 Goes run used s at log whole q next =
     GoesOn room act sound (read_at record_length s) (length s) (command_moves record_length s) run used at log whole q next record_length
 
-module _ (run : Run Port) (p : Port) (used : ℕ) (s : List ℕ) (at : ℕ) (log ys : List ℕ) (q : Port) (st : Result ℕ Reason)
+module _ (run : Run Progress) (p : Progress) (used : ℕ) (s : List ℕ) (at : ℕ) (log ys : List ℕ) (q : Progress) (st : Result ℕ Reason)
     (inside : used ≤ length log) (here : at < length s)
     (so_far : run ≡ recorded (take used log) (from_at p s at (drop used log)))
     (turn : stepped st q ys ≡ port_step p s at (take (length log - used) (drop used log)))
@@ -115,25 +123,25 @@ module _ (run : Run Port) (p : Port) (used : ℕ) (s : List ℕ) (at : ℕ) (log
       (ap (λ (t : Result ℕ Reason). stepped t q ys) e)
 
   pub port_stands : {reason : Reason} → st ≡ Err reason → OnErr st (q ≡ p) →
-      ran (record { port = q; end = Err (record { reason = reason; offset = at }); used = used }) (put_mid used (length log - used) log ys) ≡ run
+      ran (record { port = q.port; length = q.length; end = Err (record { reason = reason; offset = at }); used = used }) (put_mid used (length log - used) log ys) ≡ run
   unfolding port_step
   port_stands {reason} e as_it_was =
       let same : q ≡ p = subst (λ (t : Result ℕ Reason). OnErr t (q ≡ p)) e as_it_was in
-      subst⁻¹ (λ (x : Port). ran (record { port = x; end = Err (record { reason = reason; offset = at }); used = used }) (put_mid used (length log - used) log ys) ≡ run) same
+      subst⁻¹ (λ (x : Progress). ran (record { port = x.port; length = x.length; end = Err (record { reason = reason; offset = at }); used = used }) (put_mid used (length log - used) log ys) ≡ run) same
       (stands room act sound (read_at record_length s) (length s) (command_moves record_length s) run p used at log ys (stepped st q ys) inside here so_far turn kept
       (ap (λ (t : Result ℕ Reason). stepped t q ys) e))
 
-pub port_finishes : (run : Run Port) (p : Port) (used : ℕ) (s : List ℕ) (at : ℕ) (log : List ℕ) → used ≤ length log → length s ≤ at →
-    run ≡ recorded (take used log) (from_at p s at (drop used log)) → ran (record { port = p; end = Ok tt; used = used }) log ≡ run
+pub port_finishes : (run : Run Progress) (p : Progress) (used : ℕ) (s : List ℕ) (at : ℕ) (log : List ℕ) → used ≤ length log → length s ≤ at →
+    run ≡ recorded (take used log) (from_at p s at (drop used log)) → ran (record { port = p.port; length = p.length; end = Ok tt; used = used }) log ≡ run
 port_finishes run p used s at log inside h so_far =
     finishes room act sound (read_at record_length s) (length s) (command_moves record_length s) run p used at log inside h so_far
 
 -- ---- the whole run
 
-pub play_tested : (p : Port) (s log : List ℕ) (b : Bool) (z : Run Port) → b ≡ valid p → b ≡ true → z ≡ play_on p s log → z ≡ play p s log
+pub play_tested : (p : Port) (s log : List ℕ) (b : Bool) (z : Run Progress) → b ≡ valid p → b ≡ true → z ≡ play_on p s log → z ≡ play p s log
 unfolding play
 play_tested p s log b z e t h = h ∙ sym (rw (← e, t))
 
-pub play_refused : (p : Port) (s log : List ℕ) (b : Bool) → b ≡ valid p → b ≡ false → ended 8 0 p log ≡ play p s log
+pub play_refused : (p : Port) (s log : List ℕ) (b : Bool) → b ≡ valid p → b ≡ false → ended 8 0 (started p) log ≡ play p s log
 unfolding play
 play_refused p s log b e t = sym (rw (← e, t))

@@ -1,12 +1,13 @@
 -- Document 01, "A script comes in": what playing a script on a port leaves. What playing is, is said once for all players (machine's Machine.antt): here is
 -- what is this player's own, the record of a command, and the direct call (port's Calls.antt) that it makes.
 -- Assumes nothing.
-use Rattle.std.specs.Prelude.{ℕ, cond, List, [], ◌∷◌, Result, Ok, Err}
+use Rattle.std.specs.Prelude.{ℕ, ◌+◌, ◌%◌, ◌^◌, cond, List, [], ◌∷◌, Result, Ok, Err}
 use Rattle.frame.specs.Frame.{one_if}
 use Rattle.command.specs.declared.Command.{Command}
 use Rattle.command.specs.Command.{kind}
 use Rattle.port.specs.declared.Port.{Port}
 use Rattle.port.specs.Calls.{Answer, done, refused, direct, number}
+use Rattle.port_laws.specs.Edges.{edges}
 use Rattle.pins.specs.Pins.{transmit_level, level_number, interrupt}
 use Rattle.port.specs.Valid.{valid}
 use Rattle.script.specs.Number.{fault_number}
@@ -32,17 +33,29 @@ room c = record_length
 abbrev pub items : List ℕ → List (Item Command)
 items s = script_items record_length s 0
 
--- a command is its direct call: its record and the port after it, or the refusal
-abbrev pub act_of : Command → Answer → Act Port
-act_of c (done v q) = acts (record_of c v q) q
-act_of c (refused n offset q) = refuses n
+-- what a run carries from command to command: the port, and its length so far, "the number of edges counted over the whole script, across resets, in 64
+-- bits that wrap to zero". It is the run's own: it begins with 0 whatever the port's half count is
+pub record Progress : Type 0 where
+  pub port : Port
+  pub length : ℕ
 
-abbrev pub act : Command → Port → Act Port
-act c p = act_of c (direct c p)
+abbrev pub started : Port → Progress
+started p = record { port = p; length = 0 }
+
+abbrev pub longer : ℕ → ℕ → ℕ
+longer length n = (length + n) % 2 ^ 64
+
+-- a command is its direct call: its record, the port after it and the edges that it counted; or the refusal
+abbrev pub act_of : Command → Progress → Answer → Act Progress
+act_of c s (done v q) = acts (record_of c v q) (record { port = q; length = longer s.length (edges c s.port) })
+act_of c s (refused n offset q) = refuses n
+
+abbrev pub act : Command → Progress → Act Progress
+act c s = act_of c s (direct c s.port)
 
 -- "The player tests 8 once at entry." That no later call meets 8 is a law (script_laws' Runs.antt)
-unfoldable pub play : Port → List ℕ → List ℕ → Run Port
-play p s log = cond (valid p) (play_items room act p (items s) log) (ended 8 0 p log)
+unfoldable pub play : Port → List ℕ → List ℕ → Run Progress
+play p s log = cond (valid p) (play_items room act (started p) (items s) log) (ended 8 0 (started p) log)
 
 -- ---- the code's answer, in these terms
 abbrev pub reason_number : Reason → ℕ
@@ -58,5 +71,8 @@ abbrev pub end_offset : Result (Unit {0}) Refused → ℕ
 end_offset (Ok accepted) = 0
 end_offset (Err at) = at.offset
 
-abbrev pub ran : Played → List ℕ → Run Port
-ran r log = record { state = r.port; number = end_number r.end; offset = end_offset r.end; used = r.used; log = log }
+abbrev pub reached : Played → Progress
+reached r = record { port = r.port; length = r.length }
+
+abbrev pub ran : Played → List ℕ → Run Progress
+ran r log = record { state = reached r; number = end_number r.end; offset = end_offset r.end; used = r.used; log = log }

@@ -1,10 +1,10 @@
 // Plays a script on a port and leaves a record of each command in a lent log (document 01, "A script comes in").
 #![tactic(auto)]
 
-ghost use Rattle.std.specs.Prelude.{◌≡◌, ◌++◌, ◌≤◌, length, drop, OnErr};
+ghost use Rattle.std.specs.Prelude.{◌≡◌, ◌++◌, ◌-◌, ◌≤◌, length, drop, OnErr};
 ghost use Rattle.player.specs.declared.Reason.TheVariants.{Unread, Call};
-ghost use Rattle.player.specs.Play.{record_length, record_of, play, reason_number, end_number, end_offset, ran};
-ghost use Rattle.player.specs.Private.Step.{stepped, port_step, play_on};
+ghost use Rattle.player.specs.Play.{record_length, record_of, longer, play, reason_number, end_number, end_offset, ran};
+ghost use Rattle.player.specs.Private.Step.{progress, stepped, port_step, play_on};
 
 use command::Command;
 use pins::Pins;
@@ -72,12 +72,26 @@ impl From<Reason> for u8 {
     }
 }
 
+// A run so far: the port, and how many edges its commands counted, in 64 bits that wrap to 0.
+#[derive(Clone, Copy)]
+struct Progress {
+    port: Tested,
+    length: u64,
+}
+
+// The length with the edges of one more command, by the half count before and after it: only a reset lowers that, and it counts none.
+fn longer(length: u64, before: u32, after: u32) -> u64
+    ensures { result ≡ longer length (after - before) }
+{
+    length.wrapping_add(u64::from(after.saturating_sub(before)))
+}
+
 // Plays the command at an offset of the script, and hands back the offset of the next. The log is its unwritten rest. A command that is not played leaves
-// the port as it was.
+// the run as it was.
 #[tactic(auto, using(crate::proofs::Laws::step_full, crate::proofs::Laws::step_fault, crate::proofs::Laws::step_passes))]
-fn step(port: &mut Tested, script: &[u8], at: usize, log: &mut [u8]) -> Result<usize, Reason>
-    ensures turn { stepped result port.new.port log.new ≡ port_step port.old.port script.now at log.old }
-    ensures kept { OnErr result (port.new.port ≡ port.old.port) }
+fn step(run: &mut Progress, script: &[u8], at: usize, log: &mut [u8]) -> Result<usize, Reason>
+    ensures turn { stepped result (progress run.new) log.new ≡ port_step (progress run.old) script.now at log.old }
+    ensures kept { OnErr result (progress run.new ≡ progress run.old) }
 {
     if log.len() < RECORD {
         return Err(Reason::Full);
@@ -86,9 +100,10 @@ fn step(port: &mut Tested, script: &[u8], at: usize, log: &mut [u8]) -> Result<u
         value: command,
         next,
     } = script::read_command(script, at)?;
-    let called = port.called(command)?;
+    let called = run.port.called(command)?;
     write_record(log, command, called.value, called.port);
-    port.port = called.port;
+    run.length = longer(run.length, run.port.port.half, called.port.half);
+    run.port.port = called.port;
     Ok(next)
 }
 
@@ -99,12 +114,13 @@ pub struct Refused {
     pub offset: usize,
 }
 
-// What playing hands back: the last port (at a refusal, as before the refused command), whether the whole script was accepted, and how many bytes of the
-// log are written. The log is lent by C, which is told that number. It is only copied: another derive would read the port's 28 fields, and nothing compares
-// or prints one.
+// What playing hands back: the last port (at a refusal, as before the refused command), the edges counted over the whole script, whether it was accepted, and
+// how many bytes of the log are written. The log is lent by C, which is told that number. It is only copied: another derive would read the port's 28 fields,
+// and nothing compares or prints one.
 #[derive(Clone, Copy)]
 pub struct Played {
     pub port: Port,
+    pub length: u64,
     pub end: Result<(), Refused>,
     pub used: usize,
 }
@@ -134,15 +150,16 @@ pub fn end_offset(end: Result<(), Refused>) -> usize
 fn play_on(port: Tested, script: &[u8], log: &mut [u8]) -> Played
     ensures { ran result log.new ≡ play_on port.port script.now log.old }
 {
-    let mut p = port;
+    let mut run = Progress { port, length: 0 };
     let mut at: usize = 0;
     let mut used: usize = 0;
     // No `for`: how far a turn moves on only the command that it reads tells.
     while at < script.len() {
-        match step(&mut p, script, at, &mut log[used..]) {
+        match step(&mut run, script, at, &mut log[used..]) {
             Err(reason) => {
                 return Played {
-                    port: p.port,
+                    port: run.port.port,
+                    length: run.length,
                     end: Err(Refused { reason, offset: at }),
                     used,
                 };
@@ -154,7 +171,8 @@ fn play_on(port: Tested, script: &[u8], log: &mut [u8]) -> Played
         }
     }
     Played {
-        port: p.port,
+        port: run.port.port,
+        length: run.length,
         end: Ok(()),
         used,
     }
@@ -171,6 +189,7 @@ pub fn play(port: Port, script: &[u8], log: &mut [u8]) -> Played
     }
     Played {
         port,
+        length: 0,
         end: Err(Refused {
             reason: Reason::Call(Refusal::State),
             offset: 0,

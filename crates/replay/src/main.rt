@@ -87,9 +87,9 @@ fn print_records(out: &impl Print, log: &[u8]) {
 }
 
 // The numbers are the ones that C is told.
-fn print_last(out: &impl Print, number: u64, offset: u64, halves: u64) {
+fn print_last(out: &impl Print, number: u64, offset: u64, length: u64) {
     let line = if number == 0 {
-        report::end_line((halves % 4294967296) as u32)
+        report::end_line(length)
     } else {
         report::refused_line((number % 256) as u8, offset as usize)
     };
@@ -110,11 +110,11 @@ fn with_room<const N: usize, F: FnOnce(&mut [u8])>(room: usize, f: F)
 // Plays a script on a fresh port and prints what it leaves.
 fn replay(out: &impl Print, script: &[u8], log: &mut [u8]) {
     let mut state = [0u64; STATE];
-    let mut told = [0u64; 2];
+    let mut told = [0u64; 3];
     sci3_fresh(&mut state);
     let number = sci3_play(&mut state, script, log, &mut told);
     print_records(out, log.get(..told[1] as usize).unwrap_or(&[]));
-    print_last(out, number, told[0], state[14]);
+    print_last(out, number, told[0], told[2]);
     let sum = with_bytes(NO_BYTES, log);
     print_sum(out, with_numbers(sum, &state));
 }

@@ -14,7 +14,7 @@ use Rattle.port.specs.declared.Port.{Port}
 use Rattle.port.specs.Power.{fresh}
 use Rattle.machine.specs.Machine.{Run}
 use Rattle.player.specs.declared.Played.{Played}
-use Rattle.player.specs.Play.{record_length, end_number, end_offset, ran, play}
+use Rattle.player.specs.Play.{Progress, record_length, end_number, end_offset, ran, play}
 use Rattle.player.proofs.Used.{within}
 use Rattle.report.specs.Printout.{first_line, record_lines, last_line, longest, log_length, too_long, printout}
 
@@ -59,7 +59,7 @@ too_long_text script h = rw (lt-ltb longest (length script) h)
 
 module _ (script log : List ℕ) (p : Port) (x : Played) (run : ran x log ≡ play p script (replicate log_length 0)) where
   pub used_within : x.used ≤ log_length
-  used_within = let w = within p script (replicate log_length 0) in omega (arith, ap (λ (r : Run Port). r.used) run, w.used, length-replicate {A = ℕ} log_length 0)
+  used_within = let w = within p script (replicate log_length 0) in omega (arith, ap (λ (r : Run Progress). r.used) run, w.used, length-replicate {A = ℕ} log_length 0)
 
   -- how many bytes of the log are used
   pub part_long : length log ≡ log_length → length (take x.used log) ≡ x.used
@@ -67,7 +67,7 @@ module _ (script log : List ℕ) (p : Port) (x : Played) (run : ran x log ≡ pl
 
   pub run_printed : p ≡ fresh → length log ≡ log_length → length script ≤ longest →
       flat_map first_line (first_chunks record_length (length (take x.used log) / record_length) (take x.used log))
-      ++ last_line (end_number x.end) (end_offset x.end) x.port.half
+      ++ last_line (end_number x.end) (end_offset x.end) x.length
       ≡ printout script
   unfolding printout
   run_printed e h s =

@@ -1,5 +1,5 @@
 -- The printed run of document 01, "A script comes in": the line of each of its records, its last line, and the whole of it from the input; its examples
--- of refused commands; with them the largest half count. Each table has one theorem, by computation.
+-- of refused commands; with them the greatest length, and the lengths of scripts with resets. Each table has one theorem, by computation.
 -- Assumes nothing.
 use Rattle.std.specs.Prelude.{ℕ, ◌≡◌, refl, List, [], ◌∷◌, ◌++◌, map, replicate}
 use Rattle.frame.specs.Frame.{bits, number, odd_ones, format, parity_cell, frame, word, format_valid, word_valid}
@@ -15,9 +15,8 @@ use Rattle.port.specs.Input.{receive_input, external_edge, input_pins}
 use Rattle.pins.specs.Pins.{transmit_level, interrupt}
 use Rattle.port.specs.Valid.{registers_valid, valid}
 use Rattle.port.specs.Calls.{called, direct}
-use Rattle.port.specs.declared.Port.{Port}
 use Rattle.machine.specs.Machine.{Run, play_items}
-use Rattle.player.specs.Play.{play}
+use Rattle.player.specs.Play.{Progress, play}
 use Rattle.report.specs.Printout.{printout}
 use Rattle.report.specs.Lines.{record_line, end_line, refused_line}
 
@@ -52,8 +51,10 @@ each_case = refl
 pub run_ends : end_line 352 ≡ 101 ∷ 110 ∷ 100 ∷ 32 ∷ 51 ∷ 53 ∷ 50 ∷ 10 ∷ []
 run_ends = refl
 
--- `end 4000000000`
-pub longest_run : end_line 4000000000 ≡ 101 ∷ 110 ∷ 100 ∷ 32 ∷ 52 ∷ 48 ∷ 48 ∷ 48 ∷ 48 ∷ 48 ∷ 48 ∷ 48 ∷ 48 ∷ 48 ∷ 10 ∷ []
+-- `end 18446744073709551615`
+pub longest_run : end_line 18446744073709551615 ≡
+    101 ∷ 110 ∷ 100 ∷ 32
+    ∷ 49 ∷ 56 ∷ 52 ∷ 52 ∷ 54 ∷ 55 ∷ 52 ∷ 52 ∷ 48 ∷ 55 ∷ 51 ∷ 55 ∷ 48 ∷ 57 ∷ 53 ∷ 53 ∷ 49 ∷ 54 ∷ 49 ∷ 53 ∷ 10 ∷ []
 longest_run = refl
 
 -- `refused 6 at 17`
@@ -104,9 +105,40 @@ refused_cases =
     ∷ refused_row (0x08 ∷ []) 4 (9 ∷ 0 ∷ 0 ∷ [])
     ∷ []
 
-abbrev pub told_by : Run Port → List ℕ
+abbrev pub told_by : Run Progress → List ℕ
 told_by r = r.number ∷ r.offset ∷ r.used ∷ []
 
 pub each_refusal : map (λ k. told_by (play fresh k.script (replicate k.room 0))) refused_cases ≡ map (λ k. k.told) refused_cases
 unfolding play play_items transmit_level interrupt direct called valid registers_valid character_valid word_in_place format_valid word_valid fresh reset_registers reset set_power receive_input external_edge input_pins peek read write_scr write_tdr status_with status_write stored connect load_tail after_store write process_basic sync clocked_edge advance half_step halves refresh_sync_clock take_bit receive_bit tail_ends bit_out shift_out sync_edge loaded preloaded begin start_at try_start next_cell advance_tx sample_at arm_receive complete_receive advance_rx bits number odd_ones format parity_cell frame word
 each_refusal = refl
+
+-- ---- the length
+-- a script on a fresh port, and the edges that it counts across its resets: the module off and on again in mid script; reset mode; edges of the clock pin
+-- before the module goes off; a wait while the clock stands; a refused command after others
+pub record Counted : Type 0 where
+  pub script : List ℕ
+  pub length : ℕ
+
+abbrev counted_row : List ℕ → ℕ → Counted
+counted_row s n = record { script = s; length = n }
+
+abbrev pub counted_cases : List Counted
+counted_cases =
+    counted_row (0x06 ∷ 0x03 ∷ 0x03 ∷ 0x05 ∷ 0x06 ∷ 0x00 ∷ 0x06 ∷ 0x03 ∷ 0x03 ∷ 0x07 ∷ []) 12
+    ∷ counted_row (0x06 ∷ 0x03 ∷ 0x03 ∷ 0x05 ∷ 0x06 ∷ 0x0B ∷ []) 5
+    ∷ counted_row
+    (0x06 ∷ 0x03 ∷ 0x02 ∷ 0x9A ∷ 0xFF ∷ 0x03 ∷ 0x02 ∷ 0x05 ∷ 0x00 ∷ 0x01 ∷ 0x05 ∷ 0x01 ∷ 0x01 ∷ 0x06 ∷ 0x00 ∷ [])
+    2
+    ∷ counted_row (0x03 ∷ 0x05 ∷ []) 0
+    ∷ counted_row (0x06 ∷ 0x03 ∷ 0x03 ∷ 0x05 ∷ 0x06 ∷ 0x00 ∷ 0x08 ∷ []) 5
+    ∷ []
+
+pub each_length : map (λ k. (play fresh k.script (replicate 50 0)).state.length) counted_cases ≡ map (λ k. k.length) counted_cases
+unfolding play play_items transmit_level interrupt direct called valid registers_valid character_valid word_in_place format_valid word_valid fresh reset_registers reset set_power receive_input external_edge input_pins peek read write_scr write_tdr status_with status_write stored connect load_tail after_store write process_basic sync clocked_edge advance half_step halves refresh_sync_clock take_bit receive_bit tail_ends bit_out shift_out sync_edge loaded preloaded begin start_at try_start next_cell advance_tx sample_at arm_receive complete_receive advance_rx bits number odd_ones format parity_cell frame word
+each_length = refl
+
+-- a run on the port that another left begins with 0: so each of two runs of the same script has its own edges only
+pub each_its_own :
+    (play (play fresh (0x06 ∷ 0x03 ∷ 0x03 ∷ 0x05 ∷ []) (replicate 50 0)).state.port (0x06 ∷ 0x03 ∷ 0x03 ∷ 0x05 ∷ []) (replicate 50 0)).state.length ≡ 5
+unfolding play play_items transmit_level interrupt direct called valid registers_valid character_valid word_in_place format_valid word_valid fresh reset_registers reset set_power receive_input external_edge input_pins peek read write_scr write_tdr status_with status_write stored connect load_tail after_store write process_basic sync clocked_edge advance half_step halves refresh_sync_clock take_bit receive_bit tail_ends bit_out shift_out sync_edge loaded preloaded begin start_at try_start next_cell advance_tx sample_at arm_receive complete_receive advance_rx bits number odd_ones format parity_cell frame word
+each_its_own = refl

@@ -1,5 +1,5 @@
--- What the program prints. Document 01, "A script comes in": it "prints one line a record, and ends with `end` and the run's length, which is the
--- half count of the last state, or `refused N at P`"; of a record, "kind, answer and SSR in hex, level with `-` for not driven, interrupt".
+-- What the program prints. Document 01, "A script comes in": it "prints one line a record, and ends with `end` and the run's length .., or
+-- `refused N at P`" (the length: player's Play.antt); of a record, "kind, answer and SSR in hex, level with `-` for not driven, interrupt".
 -- Digits above 9 are capitals. A record that no command leaves has its text too: a kind above 15, a level above 2 and an interrupt above 1 print `?`.
 -- Assumes nothing.
 use Rattle.std.specs.Prelude.{ℕ, ◌/◌, ◌%◌, cond, List, [], ◌∷◌, ◌++◌, eqb}
@@ -23,9 +23,9 @@ record_line kind answer ssr driven interrupt =
     ∷ level driven ∷ 32
     ∷ bit interrupt ∷ 10 ∷ []
 
--- `end `, the half count, newline
+-- `end `, the length, newline
 abbrev pub end_line : ℕ → List ℕ
-end_line halves = (101 ∷ 110 ∷ 100 ∷ 32 ∷ []) ++ (decimal halves ++ (10 ∷ []))
+end_line length = (101 ∷ 110 ∷ 100 ∷ 32 ∷ []) ++ (decimal length ++ (10 ∷ []))
 
 -- `refused `, the number, ` at `, the offset, newline
 abbrev pub refused_line : ℕ → ℕ → List ℕ

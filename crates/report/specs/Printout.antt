@@ -1,12 +1,11 @@
 -- All that the program prints for its input. Document 01, "A script comes in": "The program reads at most 16,384 bytes of standard input (more prints
 -- `too long` and nothing else), starts from a fresh port .., lends a 40,960-byte log, prints one line a record, and ends with `end` and the run's
--- length, which is the half count of the last state, or `refused N at P`. There is no header."
+-- length .., or `refused N at P`. There is no header." The length is the run's own (player's Play.antt).
 -- Assumes nothing.
 use Rattle.std.specs.Prelude.{ℕ, zero, suc, ◌/◌, cond, List, [], ◌∷◌, ◌++◌, length, drop, get_or, replicate, ltb, eqb}
 use Rattle.port.specs.Power.{fresh}
-use Rattle.port.specs.declared.Port.{Port}
 use Rattle.machine.specs.Machine.{Run}
-use Rattle.player.specs.Play.{record_length, play}
+use Rattle.player.specs.Play.{Progress, record_length, play}
 use Rattle.report.specs.Lines.{record_line, end_line, refused_line}
 
 -- the line of the record at the front of a log
@@ -20,10 +19,10 @@ record_lines (suc n) log = first_line log ++ record_lines n (drop record_length 
 
 -- 0 is the number of a script that was accepted
 abbrev pub last_line : ℕ → ℕ → ℕ → List ℕ
-last_line number offset halves = cond (eqb number 0) (end_line halves) (refused_line number offset)
+last_line number offset length = cond (eqb number 0) (end_line length) (refused_line number offset)
 
-abbrev pub run_text : Run Port → List ℕ
-run_text r = record_lines (r.used / record_length) r.log ++ last_line r.number r.offset r.state.half
+abbrev pub run_text : Run Progress → List ℕ
+run_text r = record_lines (r.used / record_length) r.log ++ last_line r.number r.offset r.state.length
 
 abbrev pub longest : ℕ
 longest = 16384

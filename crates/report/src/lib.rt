@@ -64,12 +64,12 @@ pub fn record_line(bytes: [u8; RECORD]) -> ArrayString<12>
 }
 
 // The last line of a script that was accepted.
-pub fn end_line(halves: u32) -> ArrayString<64>
-    ensures { result.bytes ≡ end_line halves }
+pub fn end_line(length: u64) -> ArrayString<64>
+    ensures { result.bytes ≡ end_line length }
 {
     let mut line = ArrayString::new();
     line.push_str("end ");
-    text::push_number(&mut line, u64::from(halves));
+    text::push_number(&mut line, length);
     line.push_str("\n");
     line
 }
@@ -98,11 +98,11 @@ fn push_records(out: &mut ArrayString<98368>, records: &[[u8; RECORD]])
 }
 
 // The last line of a run.
-fn last_line(end: Result<(), Refused>, halves: u32) -> ArrayString<64>
-    ensures { result.bytes ≡ last_line (end_number end) (end_offset end) halves }
+fn last_line(end: Result<(), Refused>, length: u64) -> ArrayString<64>
+    ensures { result.bytes ≡ last_line (end_number end) (end_offset end) length }
 {
     match end {
-        Ok(()) => end_line(halves),
+        Ok(()) => end_line(length),
         Err(refused) => refused_line(u8::from(refused.reason), refused.offset),
     }
 }
@@ -121,5 +121,5 @@ pub fn printout(script: &[u8], out: &mut ArrayString<98368>)
     let played = player::play(Port::default(), script, &mut log);
     let (records, _) = log[..played.used].as_chunks();
     push_records(out, records);
-    out.push_str(&last_line(played.end, played.port.half));
+    out.push_str(&last_line(played.end, played.length));
 }

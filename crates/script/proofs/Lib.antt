@@ -4,3 +4,4 @@ pub mod Numbers
 pub mod Commands
 pub mod Items
 pub mod Slices
+pub mod Parts

@@ -10,21 +10,21 @@ use Rattle.port.specs.declared.Port.{Port}
 use Rattle.port.specs.Calls.{after, direct, run}
 use Rattle.port.specs.Power.{fresh}
 use Rattle.port.specs.Valid.{valid}
-use Rattle.player.specs.Play.{room, items, act, play}
+use Rattle.player.specs.Play.{Progress, room, items, started, act, play}
 use Rattle.recovery.specs.Layers.{CarriesOver, calls_made, state_after}
 
 -- ---- a run is its commands' direct calls
 -- the commands that were played: the first ones, as many as filled the bytes of the log that were written
-abbrev pub commands_played : List ℕ → Run Port → List Command
+abbrev pub commands_played : List ℕ → Run Progress → List Command
 commands_played s r = played room r.used (commands (items s))
 
 -- the run r of the script s on the port p, where the log was `before`
-pub record IsItsCalls (p : Port) (s before : List ℕ) (r : Run Port) : Type 0 where
+pub record IsItsCalls (p : Port) (s before : List ℕ) (r : Run Progress) : Type 0 where
   -- none of them was refused; the log begins with their records, and every other byte is as it was; a script that was accepted was played whole
   -- (machine's Machine.antt)
-  pub its_commands : IsItsCommands room act p (commands (items s)) before r
+  pub its_commands : IsItsCommands room act (started p) (commands (items s)) before r
   -- their direct calls leave the port
-  pub port : r.state ≡ run p (commands_played s r)
+  pub port : r.state.port ≡ run p (commands_played s r)
 
 abbrev pub RunsAreCalls : Type 0
 RunsAreCalls = (p : Port) (s log : List ℕ) → IsItsCalls p s log (play p s log)
@@ -42,7 +42,7 @@ pub data Action : Type 0 where
 -- the port that an action leaves, be it accepted or refused
 abbrev pub leaves : Action → Port → Port
 leaves (makes_call c) p = after (direct c p)
-leaves (plays_script s log) p = (play p s log).state
+leaves (plays_script s log) p = (play p s log).state.port
 
 -- "a script counts as its commands' calls": those that were played, up to the one that was refused
 abbrev pub counts_as : Action → Port → List Command

@@ -15,6 +15,7 @@ pub struct Player<'a> {
     start: Words,
     words: Words,
     log: Vec<u8>,
+    length: u64,
     ended: Result<usize, String>,
 }
 
@@ -26,6 +27,7 @@ impl<'a> Player<'a> {
             start,
             words: start,
             log: vec![0; case.commands.len() * RECORD],
+            length: 0,
             ended: Ok(0),
         }
     }
@@ -39,12 +41,18 @@ impl Side for Player<'_> {
     fn run(&mut self) {
         let played = ProvedPlayer.play(&mut self.words, self.script, &mut self.log);
         self.ended = played.and_then(|played| match played.number {
-            0 => Ok(played.written as usize),
+            0 => {
+                self.length = played.length;
+                Ok(played.written as usize)
+            }
             number => Err(format!("refused {number} at {}", played.offset)),
         });
     }
     fn outcome(&self) -> Result<Outcome, String> {
         outcome(&self.ended, decode(&self.words)?, &self.log)
+    }
+    fn length(&self) -> Option<u64> {
+        Some(self.length)
     }
 }
 

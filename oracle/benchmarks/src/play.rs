@@ -6,23 +6,28 @@ use model::{Command, LIMIT, RECORD, decode, registers::IRCR};
 use reference::Sci;
 
 /// A script's bytes: numbers read, ranges and refusals tested, records
-/// written. No script of a benchmark is refused, so a refusal is an error.
-pub fn script(port: &mut Reference, bytes: &[u8], log: &mut [u8]) -> Result<usize, String> {
+/// written, edges counted. No script of a benchmark is refused, so a refusal is
+/// an error. Answered are the log bytes written and the run's length.
+pub fn script(port: &mut Reference, bytes: &[u8], log: &mut [u8]) -> Result<(usize, u64), String> {
     let mut at = 0;
     let mut records = log.chunks_exact_mut(RECORD);
     let mut written = 0;
+    let mut length = 0_u64;
     while at < bytes.len() {
         let record = records.next().ok_or_else(|| refused(9, at))?;
         let (command, next) = decode(bytes, at).map_err(|number| refused(number, at))?;
         if let Some(number) = refusal(port, command) {
             return Err(refused(number, at));
         }
+        let before = port.half();
         let answer = port.call(command).map_err(|e| format!("{e:?} at {at}"))?;
         record.copy_from_slice(&port.record(command.kind, answer));
+        // A reset puts the half count to 0 and counts no edge.
+        length = length.wrapping_add(port.half().saturating_sub(before));
         at = next;
         written += RECORD;
     }
-    Ok(written)
+    Ok((written, length))
 }
 
 /// Commands that are known to be accepted; only the records are made.

@@ -14,9 +14,9 @@ pub fn main(pace: Pace) -> Result<(), String> {
     std::io::stdin().read_to_end(&mut script).map_err(text)?;
     let mut port = Reference::at(&Oracle::fresh().state(), pace);
     let mut log = vec![0; LOG];
-    let written = play::script(&mut port, &script, &mut log)?;
+    let (written, length) = play::script(&mut port, &script, &mut log)?;
     let mut lines = printed(&log[..written]);
-    lines.extend(format!("end {}\n", port.half()).bytes());
+    lines.extend(format!("end {length}\n").bytes());
     std::io::stdout().write_all(&lines).map_err(text)
 }
 

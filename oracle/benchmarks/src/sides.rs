@@ -22,6 +22,10 @@ pub trait Side {
     fn run(&mut self);
     /// Where the run ended, or what went wrong in it.
     fn outcome(&self) -> Result<Outcome, String>;
+    /// The run's length, of a side that plays a script.
+    fn length(&self) -> Option<u64> {
+        None
+    }
 }
 
 /// The sides, by what they are given and what they hand back.
@@ -100,6 +104,7 @@ struct Playing<'a> {
     start: Reference,
     port: Reference,
     log: Vec<u8>,
+    length: u64,
     ended: Result<usize, String>,
 }
 
@@ -116,6 +121,7 @@ impl<'a> Playing<'a> {
             port: start.clone(),
             start,
             log: vec![0; case.commands.len() * record],
+            length: 0,
             ended: Ok(0),
         })
     }
@@ -129,13 +135,19 @@ impl Side for Playing<'_> {
     fn run(&mut self) {
         let (port, log) = (&mut self.port, &mut self.log[..]);
         self.ended = match self.task {
-            Task::Script(bytes) => play::script(port, bytes, log),
+            Task::Script(bytes) => play::script(port, bytes, log).map(|(written, length)| {
+                self.length = length;
+                written
+            }),
             Task::List(commands) => play::list(port, commands, log),
             Task::Calls(commands) => play::calls(port, commands, log),
         };
     }
     fn outcome(&self) -> Result<Outcome, String> {
         outcome(&self.ended, self.port.state()?, &self.log)
+    }
+    fn length(&self) -> Option<u64> {
+        matches!(self.task, Task::Script(_)).then_some(self.length)
     }
 }
 

@@ -14,36 +14,40 @@ fn case(plan: &Plan) -> Case {
     }
 }
 
-/// The oracle's player, which tests every step.
-fn oracle(case: &Case) -> Outcome {
+/// The oracle's player, which tests every step; and the run's length.
+fn oracle(case: &Case) -> (Outcome, u64) {
     let mut port = Oracle::from_state(&case.start);
     let mut log = vec![0; case.commands.len() * RECORD];
     let run = model::play(&mut port, &case.script, &mut log).expect("no fault");
     assert_eq!(run.records, case.commands.len());
-    Outcome {
+    let outcome = Outcome {
         state: port.state(),
         log,
-    }
+    };
+    (outcome, run.length)
 }
 
-fn ended(kind: Kind, case: &Case) -> Option<Outcome> {
+/// Where a side ends, with the length where it has one.
+fn ended(kind: Kind, case: &Case) -> Option<(Outcome, Option<u64>)> {
     let mut side = side(kind, case)?;
     // Twice, so that a reset is seen to bring everything back.
     for _ in 0..2 {
         side.reset();
         side.run();
     }
-    Some(side.outcome().expect("a run of a benchmark is accepted"))
+    let outcome = side.outcome().expect("a run of a benchmark is accepted");
+    Some((outcome, side.length()))
 }
 
 #[test]
 fn players_end_as_the_oracle_does() {
     for plan in &PLANS {
         let case = case(plan);
-        let expected = oracle(&case);
+        let (expected, length) = oracle(&case);
         for kind in PLAYING {
-            if let Some(met) = ended(kind, &case) {
+            if let Some((met, counted)) = ended(kind, &case) {
                 assert!(met == expected, "{}: {kind:?}", plan.name);
+                assert_eq!(counted.unwrap_or(length), length, "{}: {kind:?}", plan.name);
             }
         }
     }
@@ -53,10 +57,10 @@ fn players_end_as_the_oracle_does() {
 fn calls_end_as_the_oracle_does() {
     for plan in &PLANS {
         let case = case(plan);
-        let mut expected = oracle(&case);
+        let (mut expected, _) = oracle(&case);
         expected.log = expected.log.chunks_exact(RECORD).map(|r| r[1]).collect();
         for kind in CALLING {
-            if let Some(met) = ended(kind, &case) {
+            if let Some((met, _)) = ended(kind, &case) {
                 assert!(met == expected, "{}: {kind:?}", plan.name);
             }
         }
@@ -67,7 +71,7 @@ fn calls_end_as_the_oracle_does() {
 fn words_are_sent_and_received_back_to_back() {
     for plan in PLANS.iter().filter(|plan| plan.unit == Unit::Word) {
         let case = case(plan);
-        let (before, after) = (case.start, oracle(&case).state);
+        let (before, after) = (case.start, oracle(&case).0.state);
         let sent = after.transmitted - before.transmitted;
         let received = after.received - before.received;
         let words = case.units as u64;

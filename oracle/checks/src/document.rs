@@ -2,7 +2,7 @@
 //! table and the printed run, with the figures that the document prints.
 use crate::{
     Part,
-    tools::{after, end, end_line, ends, sender, shows},
+    tools::{after, end, ends, sender, shows},
 };
 use model::{
     LIMIT, Oracle, Rx, State, Tx, bytes,
@@ -25,8 +25,19 @@ pub fn all() -> Vec<Part> {
             ends("", "end 0"),
             printed_run(),
         ],
+        lengths(),
     ]
     .concat()
+}
+
+/// Document 02, One: the length is counted across resets, by the module and
+/// by reset mode, and on the clock pin.
+fn lengths() -> Vec<Part> {
+    vec![
+        ends("06 03 03 05 06 00 06 03 03 07", "end 12"),
+        ends("06 03 03 05 06 0B", "end 5"),
+        ends("06 03 02 9A FF 03 02 05 00 01 05 01 01 06 00", "end 2"),
+    ]
 }
 
 /// The seven words, each taken from the sender that has loaded it.
@@ -147,7 +158,7 @@ fn refusals() -> Vec<Part> {
     };
     let on = |state: &State, script: &str| end(&mut Oracle::from_state(state), script);
     let short = play(&mut Oracle::fresh(), &bytes("07"), &mut [0; 4])
-        .map_or_else(|fault| fault.to_string(), |run| end_line(run.end));
+        .map_or_else(|fault| fault.to_string(), |run| run.last_line());
     vec![
         ends("01 A5 FF 03", "refused 1 at 0"),
         ends("03 80 80 04", "refused 2 at 0"),
@@ -159,7 +170,7 @@ fn refusals() -> Vec<Part> {
         ),
         Part::new(
             "state one below: 03 01",
-            "end 4000000000",
+            "end 1",
             on(
                 &State {
                     half: LIMIT - 1,

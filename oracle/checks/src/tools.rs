@@ -48,7 +48,7 @@ pub fn printed(script: &[u8]) -> Result<(String, Oracle), model::Fault> {
     let run = play(&mut oracle, script, &mut log)?;
     let records = log.chunks_exact(RECORD).take(run.records);
     let mut lines: Vec<String> = records.map(line).collect();
-    lines.push(end_line(run.end));
+    lines.push(run.last_line());
     Ok((lines.join("\n"), oracle))
 }
 
@@ -56,8 +56,7 @@ pub fn printed(script: &[u8]) -> Result<(String, Oracle), model::Fault> {
 pub fn after_on(mut oracle: Oracle, script: &str) -> Oracle {
     match run(&mut oracle, script) {
         Ok(Run {
-            end: End::Accepted(_),
-            ..
+            end: End::Accepted, ..
         }) => oracle,
         other => panic!("{script}: {other:?}"),
     }
@@ -79,15 +78,8 @@ pub fn ends(script: &str, expected: &str) -> Part {
 
 pub fn end(oracle: &mut Oracle, script: &str) -> String {
     match run(oracle, script) {
-        Ok(run) => end_line(run.end),
+        Ok(run) => run.last_line(),
         Err(fault) => fault.to_string(),
-    }
-}
-
-pub fn end_line(end: End) -> String {
-    match end {
-        End::Accepted(half) => format!("end {half}"),
-        End::Refused { number, offset } => format!("refused {number} at {offset}"),
     }
 }
 

@@ -99,6 +99,21 @@ fn short_scripts_are_all() {
     }
 }
 
+/// As many scripts of resets as there are lists of at most six commands.
+#[test]
+fn resets_are_all() {
+    let ground = Ground::default();
+    let walk = Walk::whole(Part::Resets);
+    assert_eq!(walk.end, (9_u64.pow(7) - 1) / 8);
+    let all: HashSet<_> = (walk.first..walk.end)
+        .map(|number| ground.case(Part::Resets, number).1.script)
+        .collect();
+    assert_eq!(all.len() as u64, walk.end);
+    for script in ["06 03 03 05 06 00 06 03 03 05", LENGTH_OF_PINS] {
+        assert!(all.contains(&bytes(script)), "{script}");
+    }
+}
+
 /// Every log length with as many commands as fit and with one more; every
 /// script length just so.
 #[test]
@@ -128,31 +143,41 @@ fn cases_are_those_of_their_seeds() {
     }
 }
 
+/// Two edges of the clock pin, and a reset.
+const LENGTH_OF_PINS: &str = "06 03 02 9A FF 03 02 05 00 01 05 01 01 06 00";
+
 /// Document 01's examples through the player that stands in for the proved
 /// one: number, offset and log bytes.
 #[test]
 fn examples() {
     let cases = [
-        ("", 0, 0, 0, 0),
-        ("01 A5 FF 03", LOG, 1, 0, 0),
-        ("03 80 80 04", LOG, 2, 0, 0),
-        ("02 A7 FF 03 80 01", LOG, 3, 0, 0),
-        ("03", LOG, 5, 0, 0),
-        ("80 00", LOG, 6, 0, 0),
-        ("08", LOG, 7, 0, 0),
-        ("07", 4, 9, 0, 0),
-        ("07", 5, 0, 0, 5),
-        ("07 07", 9, 9, 1, 5),
-        ("03 FF FF 03", LOG, 0, 0, 5),
+        ("", 0, 0, 0, 0, 0),
+        ("01 A5 FF 03", LOG, 1, 0, 0, 0),
+        ("03 80 80 04", LOG, 2, 0, 0, 0),
+        ("02 A7 FF 03 80 01", LOG, 3, 0, 0, 0),
+        ("03", LOG, 5, 0, 0, 0),
+        ("80 00", LOG, 6, 0, 0, 0),
+        ("08", LOG, 7, 0, 0, 0),
+        ("07", 4, 9, 0, 0, 0),
+        ("07", 5, 0, 0, 5, 0),
+        ("07 07", 9, 9, 1, 5, 0),
+        ("03 FF FF 03", LOG, 0, 0, 5, 0),
+        // Document 02, One: the length across resets, on the clock pin, and
+        // before a refusal.
+        ("06 03 03 05 06 00 06 03 03 07", LOG, 0, 0, 25, 12),
+        ("06 03 03 05 06 0B", LOG, 0, 0, 15, 5),
+        (LENGTH_OF_PINS, LOG, 0, 0, 25, 2),
+        ("06 03 03 05 06 00 08", LOG, 7, 6, 15, 5),
     ];
-    for (script, length, number, offset, written) in cases {
-        let mut log = vec![0; length];
+    for (script, room, number, offset, written, length) in cases {
+        let mut log = vec![0; room];
         let mut words = first_words(&Start::Fresh);
         let met = right().play(&mut words, &bytes(script), &mut log);
         let expected = Played {
             number,
             offset,
             written,
+            length,
         };
         assert_eq!(met, Ok(expected), "{script}");
     }

@@ -22,6 +22,8 @@ pub enum Fault {
     Reference(Error),
     /// It did not count the one half that was due.
     Counted { from: u64, to: u64 },
+    /// Its half count moved where no edge may be counted.
+    Moved { from: u64, to: u64 },
     /// It and document 01 disagree on whether halves pass.
     Counting { reference: bool },
     /// Its state is not one that document 01 keeps.
@@ -41,6 +43,7 @@ impl fmt::Display for Fault {
         match self {
             Self::Reference(error) => write!(f, "the reference answers Err({error:?})"),
             Self::Counted { from, to } => write!(f, "one half due at {from}, counted to {to}"),
+            Self::Moved { from, to } => write!(f, "the half count moved from {from} to {to}"),
             Self::Counting { reference } => {
                 write!(
                     f,
@@ -122,6 +125,7 @@ pub struct Oracle {
     now: Time,
     habits: Habits,
     drained: usize,
+    counted: u64,
 }
 
 impl Default for Oracle {
@@ -158,6 +162,7 @@ impl Oracle {
             now,
             habits: setup.habits,
             drained: 0,
+            counted: 0,
         }
     }
 
@@ -199,6 +204,12 @@ impl Oracle {
     pub fn drained(&self) -> usize {
         self.drained
     }
+    /// How many edges of the clock the reference counted in this port's calls
+    /// so far, in 64 bits that wrap. Each is taken where it is counted, so a
+    /// reset, which puts the half count to 0, takes none away.
+    pub fn counted(&self) -> u64 {
+        self.counted
+    }
     /// The reference's own test of its state.
     pub fn validate(&self) -> Result<(), Error> {
         self.sci.oracle_validate(self.now)
@@ -229,8 +240,15 @@ impl Oracle {
         if counting(state) != reference {
             return Err(Fault::Counting { reference });
         }
+        let (half, counted) = (self.sci.oracle_half(), self.counted);
         let answer = self.perform(reference, kind, a, b)?;
         self.tidy();
+        // What was counted is all that moved the half count but a reset.
+        let to = self.sci.oracle_half();
+        let from = half + self.counted.wrapping_sub(counted);
+        if to != from && (kind, to) != (6, 0) {
+            return Err(Fault::Moved { from, to });
+        }
         Ok(answer)
     }
 
@@ -250,7 +268,9 @@ impl Oracle {
                 self.sci.input_pins(None, a != 0, now, clocks)?;
             }
             5 => {
+                let from = self.sci.oracle_half();
                 self.sci.input_pins(Some(a != 0), b != 0, now, clocks)?;
+                self.count(from);
             }
             6 => {
                 let bit = |mask| a & mask != 0;
@@ -277,10 +297,16 @@ impl Oracle {
         self.tidy();
         let to = self.sci.oracle_half();
         if to == from + 1 {
+            self.count(from);
             Ok(())
         } else {
             Err(Fault::Counted { from, to })
         }
+    }
+    /// What the half count gained since it was this.
+    fn count(&mut self, from: u64) {
+        let gained = self.sci.oracle_half().wrapping_sub(from);
+        self.counted = self.counted.wrapping_add(gained);
     }
     /// Time moves by its least step, and no half may become due by it.
     fn inside(&mut self) -> Result<(), Fault> {

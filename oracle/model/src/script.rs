@@ -24,18 +24,27 @@ pub type Decoded = Result<(Command, usize), u8>;
 /// How a run ended.
 #[derive(Clone, Copy, Debug, PartialEq, Eq)]
 pub enum End {
-    /// With the half count of the last state.
-    Accepted(u32),
-    Refused {
-        number: u8,
-        offset: usize,
-    },
+    Accepted,
+    Refused { number: u8, offset: usize },
 }
 
 #[derive(Clone, Copy, Debug, PartialEq, Eq)]
 pub struct Run {
     pub records: usize,
+    /// The edges of the clock that the commands counted, across resets, in 64
+    /// bits that wrap; at a refusal those of the commands before.
+    pub length: u64,
     pub end: End,
+}
+
+impl Run {
+    /// The last line that the program prints.
+    pub fn last_line(&self) -> String {
+        match self.end {
+            End::Accepted => format!("end {}", self.length),
+            End::Refused { number, offset } => format!("refused {number} at {offset}"),
+        }
+    }
 }
 
 /// One number: seven bits a byte, low first. Only two bytes can break it: a
@@ -87,26 +96,31 @@ pub fn play(oracle: &mut Oracle, script: &[u8], log: &mut [u8]) -> Result<Run, F
     let mut state = oracle.try_state()?;
     let mut at = 0;
     let mut records = 0;
-    let refused = |records, number, offset| {
+    let before = oracle.counted();
+    let ended = |oracle: &Oracle, records, end| {
         Ok(Run {
             records,
-            end: End::Refused { number, offset },
+            length: oracle.counted().wrapping_sub(before),
+            end,
         })
     };
+    let refused = |oracle: &Oracle, records, number, offset| {
+        ended(oracle, records, End::Refused { number, offset })
+    };
     if field_test(&state).is_err() {
-        return refused(records, 8, 0);
+        return refused(oracle, records, 8, 0);
     }
     let mut log = log.chunks_exact_mut(RECORD);
     while at < script.len() {
         let Some(record) = log.next() else {
-            return refused(records, 9, at);
+            return refused(oracle, records, 9, at);
         };
         let (Command { kind, a, b }, next) = match decode(script, at) {
             Ok(read) => read,
-            Err(number) => return refused(records, number, at),
+            Err(number) => return refused(oracle, records, number, at),
         };
         if let Some(number) = late_refusal(&state, kind, a, b) {
-            return refused(records, number, at);
+            return refused(oracle, records, number, at);
         }
         let answer = oracle.accepted(&state, kind, a, b)?;
         record.copy_from_slice(&[
@@ -120,10 +134,7 @@ pub fn play(oracle: &mut Oracle, script: &[u8], log: &mut [u8]) -> Result<Run, F
         records += 1;
         at = next;
     }
-    Ok(Run {
-        records,
-        end: End::Accepted(state.half),
-    })
+    ended(oracle, records, End::Accepted)
 }
 
 /// A record as the program prints it.

@@ -1,5 +1,6 @@
 use Rattle.std.proofs.Common.{sym}
 use Rattle.std.proofs.lemmas.Result.{err_from_is_err_and}
+use Rattle.player.specs.Private.Step.{progress}
 use Rattle.player.proofs.Laws.{step_refused, step_onward}
 use Rattle.player.proofs.step.Goals as goal
 
@@ -8,12 +9,12 @@ returns-in_err-called-clause-turn c =
     let a = c.args in
     let p = err_from_is_err_and c.from_residual-in_err-called.result c.from_residual-in_err-called.ensures.1 in
     rw (p.1, p.2)
-    (step_refused a.port.now.port a.script.now a.at a.log.now _ _ _ a.port.now.passed c.if-log-lt-RECORD.false
+    (step_refused (progress a.run.now) a.script.now a.at a.log.now _ _ _ a.run.now.port.passed c.if-log-lt-RECORD.false
     (sym c.in_ok-command.ensures) c.in_err-called.ensures)
 
 pub returns-clause-turn : goal.returns-clause-turn
 returns-clause-turn c =
     let a = c.args in
-    step_onward a.port.now.port a.script.now a.at a.log.now _ _ _ _ a.port.now.passed c.if-log-lt-RECORD.false
+    step_onward (progress a.run.now) a.script.now a.at a.log.now _ _ _ _ _ a.run.now.port.passed c.if-log-lt-RECORD.false
     (sym c.in_ok-command.ensures) c.in_ok-called.ensures
-    c.write_record.ensures
+    c.longer-run.ensures c.write_record.ensures

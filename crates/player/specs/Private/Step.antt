@@ -5,17 +5,21 @@ use Rattle.port.specs.declared.Port.{Port}
 use Rattle.machine.specs.Machine.{Run, play_items}
 use Rattle.machine.specs.Private.Step.{Turn, onward, stopped, step}
 use Rattle.script.specs.Items.{read_at}
+use Rattle.player.specs.declared.Progress.{Progress as Held}
 use Rattle.player.specs.declared.Reason.{Reason}
-use Rattle.player.specs.Play.{record_length, room, items, act, reason_number}
+use Rattle.player.specs.Play.{Progress, record_length, room, items, started, act, reason_number}
 
--- a step's answer, and the port and the log after it
-abbrev pub stepped : Result ℕ Reason → Port → List ℕ → Turn Port
+abbrev pub progress : Held → Progress
+progress h = record { port = h.port.port; length = h.length }
+
+-- a step's answer, and the progress and the log after it
+abbrev pub stepped : Result ℕ Reason → Progress → List ℕ → Turn Progress
 stepped (Ok next) p log = onward p next record_length log
 stepped (Err reason) p log = stopped (reason_number reason) log
 
-unfoldable pub port_step : Port → List ℕ → ℕ → List ℕ → Turn Port
+unfoldable pub port_step : Progress → List ℕ → ℕ → List ℕ → Turn Progress
 port_step p s at log = step room act (read_at record_length s) p at log
 
 -- the whole script, without test 8
-abbrev pub play_on : Port → List ℕ → List ℕ → Run Port
-play_on p s log = play_items room act p (items s) log
+abbrev pub play_on : Port → List ℕ → List ℕ → Run Progress
+play_on p s log = play_items room act (started p) (items s) log

@@ -60,7 +60,7 @@ pub fn pins() -> Vec<Part> {
         then("04 00", "half 0"),
         Part::new(
             "that state at the limit: 05 00 01",
-            "end 4000000000",
+            "end 0",
             at_limit("05 00 01"),
         ),
         Part::new(

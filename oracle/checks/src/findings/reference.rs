@@ -1,7 +1,7 @@
 //! Findings 1 and 2: faults and limits in the reference itself.
 use crate::{
     Part,
-    tools::{end, end_line, run, setup},
+    tools::{end, run, setup},
 };
 use model::{Fault, Habits, Oracle, SECOND, Setup, bytes, commands};
 
@@ -18,7 +18,7 @@ pub fn cached_edge() -> Vec<Part> {
         let met = match run(&mut port, script) {
             Err(Fault::Counted { from, to }) if from == to => format!("stays at half {to}"),
             Err(fault) => fault.to_string(),
-            Ok(run) => end_line(run.end),
+            Ok(run) => run.last_line(),
         };
         Part::new(format!("{start}: {script}"), expected, met)
     };

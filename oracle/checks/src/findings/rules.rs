@@ -1,8 +1,5 @@
 //! The player's order of refusals, which document 01 alone rules.
-use crate::{
-    Part,
-    tools::{end_line, ends},
-};
+use crate::{Part, tools::ends};
 use model::{Oracle, bytes, play};
 
 pub fn order() -> Vec<Part> {
@@ -21,7 +18,7 @@ pub fn order() -> Vec<Part> {
     .map(|(script, number)| ends(script, &format!("refused {number} at 0")))
     .collect();
     let short = match play(&mut Oracle::fresh(), &bytes("08"), &mut [0; 4]) {
-        Ok(run) => end_line(run.end),
+        Ok(run) => run.last_line(),
         Err(fault) => fault.to_string(),
     };
     parts.push(Part::new("08, log of 4 bytes", "refused 9 at 0", short));

@@ -76,6 +76,14 @@ wrong! {
     Stops4096 = "the run ends after 4,096 commands",
     EmptyShort = "an empty script gives 5",
     Unused = "a place of the array that is not in use is not 0",
+    LengthHalf = "length: the half count of the last state",
+    LengthModule = "length: half counts at the module's resets, not at reset mode's",
+    LengthFall = "length: a reset takes off what was counted",
+    LengthPins = "length: without edges of the clock pin",
+    LengthStanding = "length: a wait's n while the clock stands",
+    LengthRefused = "length: 0 at a refusal",
+    LengthStart = "length: from the first port's half count on",
+    LengthLow = "length: its low byte",
 }
 
 pub struct CallsPlayer<P> {
@@ -225,8 +233,12 @@ impl<P: Port> CallsPlayer<P> {
         let mut at = 0;
         let mut written = 0;
         let mut count = 0;
+        let mut length = match self.wrong {
+            Some(Wrong::LengthStart) => self.port.state()?.half.into(),
+            _ => 0,
+        };
         if script.is_empty() && self.is(Wrong::EmptyShort) {
-            return Ok(refused(5, 0, 0));
+            return Ok(refused(5, 0, 0, 0));
         }
         while at < script.len() {
             let left = log.len() - written;
@@ -236,14 +248,14 @@ impl<P: Port> CallsPlayer<P> {
                 _ => left < 5,
             };
             if full && !self.is(Wrong::FullLate) {
-                return Ok(refused(9, at, written));
+                return Ok(refused(9, at, written, length));
             }
             let (c, behind) = match self.command(&script[at..]) {
                 Ok(read) => read,
-                Err(number) => return Ok(refused(number, at, written)),
+                Err(number) => return Ok(refused(number, at, written, length)),
             };
             if full {
-                return Ok(refused(9, at, written));
+                return Ok(refused(9, at, written, length));
             }
             let first = self.port.state()?;
             let before = self.shown()?;
@@ -259,10 +271,11 @@ impl<P: Port> CallsPlayer<P> {
                 Answer::Refused(number) => {
                     let ends = self.is(Wrong::OffsetEnd);
                     let offset = if ends { script.len() - behind } else { at };
-                    return Ok(refused(number, offset, written));
+                    return Ok(refused(number, offset, written, length));
                 }
             };
             self.record(c, value, before, log, written)?;
+            length = self.longer(length, c, first.half)?;
             if self.is(Wrong::FirstKept) && at > 0 {
                 self.port.set(&first);
             }
@@ -276,7 +289,7 @@ impl<P: Port> CallsPlayer<P> {
             }
         }
         if self.is(Wrong::FullAtEnd) && at > 0 && log.len() - written < 5 {
-            return Ok(refused(9, at, written));
+            return Ok(refused(9, at, written, length));
         }
         if self.is(Wrong::Cleared) {
             log[written..].fill(0);
@@ -286,7 +299,27 @@ impl<P: Port> CallsPlayer<P> {
             number: 0,
             offset: if accepted { script.len() as u64 } else { 0 },
             written: written as u64,
+            length,
         })
+    }
+
+    /// The length after one more command: the half counts before and after it
+    /// tell how many edges it counted, but for a power command, which counts
+    /// none and may put it to 0.
+    fn longer(&self, length: u64, c: Command, before: u32) -> Result<u64, String> {
+        let after: u64 = self.port.state()?.half.into();
+        let moved = after.wrapping_sub(before.into());
+        let counted = match self.wrong {
+            Some(Wrong::LengthHalf) => return Ok(after),
+            // What reset mode takes is not added up.
+            Some(Wrong::LengthModule) if c.kind == 6 && c.a & 9 == 9 => moved,
+            Some(Wrong::LengthFall) => moved,
+            Some(Wrong::LengthPins) if c.kind == 5 => 0,
+            Some(Wrong::LengthStanding) if c.kind == 3 => c.a.into(),
+            _ if c.kind == 6 => 0,
+            _ => moved,
+        };
+        Ok(length.wrapping_add(counted))
     }
 
     fn record(
@@ -333,6 +366,7 @@ impl<P: Port> CallsPlayer<P> {
             Some(Wrong::WrittenRecords) => played.written /= 5,
             Some(Wrong::OffsetByte) => played.offset &= 0xff,
             Some(Wrong::OffsetLow) => played.offset &= 0x1fff,
+            Some(Wrong::LengthLow) => played.length &= 0xff,
             _ => {}
         }
         if played.number == 0 {
@@ -347,6 +381,7 @@ impl<P: Port> CallsPlayer<P> {
             Some(Wrong::Lost) => log.fill(0),
             Some(Wrong::WrittenRefused) => played.written += 5,
             Some(Wrong::OffsetNext) => played.offset += 1,
+            Some(Wrong::LengthRefused) => played.length = 0,
             Some(Wrong::StateAtRefusal) => {
                 self.port.call(Command {
                     kind: 7,
@@ -360,18 +395,19 @@ impl<P: Port> CallsPlayer<P> {
     }
 }
 
-fn refused(number: u8, offset: usize, written: usize) -> Played {
+fn refused(number: u8, offset: usize, written: usize, length: u64) -> Played {
     Played {
         number: number.into(),
         offset: offset as u64,
         written: written as u64,
+        length,
     }
 }
 
 impl<P: Port> Player for CallsPlayer<P> {
     fn play(&mut self, state: &mut [u64], script: &[u8], log: &mut [u8]) -> Result<Played, String> {
         let Some(first) = within(state) else {
-            return Ok(refused(8, 0, 0));
+            return Ok(refused(8, 0, 0, 0));
         };
         self.port.set(&read(&first));
         // A call that is always refused, so that it changes nothing: by 8,
@@ -385,13 +421,13 @@ impl<P: Port> Player for CallsPlayer<P> {
             Answer::Refused(2) => {}
             Answer::Refused(8) => {
                 if self.is(Wrong::EightLate) && log.len() < 5 && !script.is_empty() {
-                    return Ok(refused(9, 0, 0));
+                    return Ok(refused(9, 0, 0, 0));
                 }
                 if self.is(Wrong::EightTouches) {
                     state[16] ^= 1;
                 }
                 let passed = self.is(Wrong::EightEmpty) && script.is_empty();
-                return Ok(refused(if passed { 0 } else { 8 }, 0, 0));
+                return Ok(refused(if passed { 0 } else { 8 }, 0, 0, 0));
             }
             other => return Err(format!("a line of 2 gives {other:?}")),
         }

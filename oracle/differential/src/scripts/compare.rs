@@ -2,7 +2,7 @@
 use super::player::{Case, Played, Player, first_words, reference};
 use crate::{
     compare::{Start, state_fields},
-    layout::{HALF, LENGTH, Words, decode, encode},
+    layout::{LENGTH, Words, decode, encode},
 };
 use model::{LOG, RECORD, State, line};
 use std::fmt;
@@ -103,7 +103,7 @@ impl Table {
             (Ok((expected, state)), Ok(met)) => (expected, state, met),
             (expected, met) => {
                 let text =
-                    |side: Result<Played, String>| side.map_or_else(|e| e, |p| p.last_line(0));
+                    |side: Result<Played, String>| side.map_or_else(|e| e, |p| p.last_line());
                 let ends = [text(expected.map(|(played, _)| played)), text(met)];
                 return Err(Box::new(Difference {
                     field: "fault".into(),
@@ -141,10 +141,7 @@ impl Table {
         (expected, state, after): (&Played, &State, &Words),
         (met, words): (&Played, &Words),
     ) -> Difference {
-        let ends = [
-            expected.last_line(state.half.into()),
-            met.last_line(words[HALF]),
-        ];
+        let ends = [expected.last_line(), met.last_line()];
         let found = |field: String, reference: String, player: String| Difference {
             field,
             reference,
@@ -155,6 +152,7 @@ impl Table {
             ("number", expected.number, met.number),
             ("offset", expected.offset, met.offset),
             ("log bytes written", expected.written, met.written),
+            ("length", expected.length, met.length),
         ];
         for (field, left, right) in numbers {
             if left != right {

@@ -59,6 +59,12 @@ met! {
     Receiver = "ends in a start-stop word received",
     Held = "ends with a byte held",
     Halves = "ends past half 65,535",
+    PastReset = "accepted, counted before and after a reset",
+    LongReset = "accepted, past half 4,095 before a reset",
+    LostReset = "refused, counted before a reset",
+    ModeReset = "accepted, counted before reset mode",
+    PinLength = "accepted, edges of the clock pin alone counted",
+    PinReset = "accepted, edges of the clock pin alone counted, then a reset",
     Read = "a value read that is not 0",
     Rdrf = "record with RDRF",
     Overrun = "record with overrun",
@@ -235,9 +241,36 @@ impl Coverage {
         let none = same.log.is_empty();
         self.meet(Met::EmptyNoLog, same.script.is_empty() && none);
         self.meet(Met::Exact, left == 0 && !none);
+        self.length(same);
+    }
+
+    /// Lengths that differ from the last half count, which a reset takes back.
+    /// Only from a fresh port: a given one's half count may stand anywhere.
+    fn length(&mut self, same: &Same) {
+        if *same.start != Start::Fresh {
+            return;
+        }
+        let (length, half) = (same.played.length, u64::from(same.state.half));
+        let lost = length - half;
+        if same.played.number != 0 {
+            self.meet(Met::LostReset, lost > 0);
+            return;
+        }
+        self.meet(Met::PastReset, lost > 0 && half > 0);
+        self.meet(Met::LongReset, lost > 0xfff);
+        self.meet(
+            Met::ModeReset,
+            lost > 0 && same.state.reset_mode && half == 0,
+        );
+        let written = &same.log[..same.played.written as usize];
+        let mut kinds = written.chunks_exact(RECORD).map(|record| record[0]);
+        let pins = length > 0 && kinds.all(|kind| kind != 3);
+        self.meet(Met::PinLength, pins);
+        self.meet(Met::PinReset, pins && lost > 0);
     }
 
     fn refused(&mut self, same: &Same) {
+        self.length(same);
         let number = same.played.number;
         let offset = same.played.offset as usize;
         self.refusals[usize::from(offset > 0)][number as usize] += 1;

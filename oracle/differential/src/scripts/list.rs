@@ -13,7 +13,7 @@ use super::{
 };
 use crate::{
     compare::Start,
-    layout::{HALF, Words, encode},
+    layout::{Words, encode},
 };
 use model::{
     Command, LOG, RECORD, SCRIPT, bytes, commands, document, line,
@@ -180,6 +180,34 @@ fn over(some: &[u8], length: u32) -> Vec<Vec<u8>> {
         .collect()
 }
 
+/// Lengths across resets: by the module and by reset mode, of waits and of
+/// edges of the clock pin, with waits while the clock stands, and refused.
+fn resets() -> Vec<Vec<u8>> {
+    [
+        "06 03 03 05 06 00 06 03 03 07",
+        "06 03 03 05 06 0B",
+        "06 03 03 05 06 0B 03 09",
+        "06 03 03 05 06 0B 06 03 03 07",
+        "06 03 03 05 06 0A 06 03 03 07",
+        "06 03 03 05 06 0B 06 0A 06 03 03 07",
+        "06 03 03 FF FF 03 06 00 06 03 03 FF FF 03 06 02 06 03 03 01",
+        "06 03 03 05 06 01 03 09 06 03 03 07",
+        "06 03 03 05 06 02 03 09 07 06 03 03 07",
+        // On the subclock, which SMR chooses.
+        "06 05 03 09 02 98 FF 03 01 03 05 06 04 06 05 02 98 FF 03 01 03 07",
+        // The clock pin: each level is one edge, the same levels again none.
+        "06 03 02 9A FF 03 02 05 00 01 05 01 01 06 00",
+        "06 03 02 9A FF 03 02 05 00 01 05 00 01 05 00 00 05 01 00 03 63 06 0B 05 00 01",
+        "06 03 05 00 01 05 01 01 02 9A FF 03 02 05 00 01 05 01 01 02 9A FF 03 00 03 05 06 00 06 03 03 02",
+        "06 03 02 9A FF 03 02 05 00 01 05 01 01 06 00 06 03 02 9A FF 03 02 05 00 01",
+        // Refused: the length is not printed.
+        "06 03 03 05 06 00 06 03 03 07 08",
+        "06 03 03 05 06 0B 03 80 80 04",
+    ]
+    .map(bytes)
+    .to_vec()
+}
+
 /// Commands of one and two bytes on a port that counts, to fill a log.
 fn filling(commands: usize) -> Vec<u8> {
     let mut script = bytes("06 03");
@@ -263,6 +291,9 @@ pub fn items() -> Vec<Item> {
     for log in (0..=5 * work.len()).step_by(3) {
         add(log, &whole[..whole.len() - 1]);
     }
+    for script in resets() {
+        add(RECORD * (commands(&script).0.len() + 1), &script);
+    }
     for (_, script) in checks::findings::scripts() {
         let script = bytes(&script);
         add(RECORD * commands(&script).0.len(), &script);
@@ -343,7 +374,7 @@ pub fn lines(played: &Played, log: &[u8], words: &Words) -> String {
     for record in log[..played.written as usize].chunks_exact(RECORD) {
         let _ = writeln!(text, "{}", line(record));
     }
-    let _ = writeln!(text, "{}", played.last_line(words[HALF]));
+    let _ = writeln!(text, "{}", played.last_line());
     let _ = writeln!(text, "= {:08X}", sum(log, words));
     text
 }

@@ -1,5 +1,6 @@
 //! The proved player, through its C function. It answers 0 or document 01's
-//! number; the offset and the log bytes written come through a third array.
+//! number; the offset, the log bytes written and the run's length come through
+//! a third array.
 use super::{
     make::Script,
     player::{Played, Player, first_words, not_refused},
@@ -10,7 +11,7 @@ use crate::{
     states,
 };
 
-// A lent array is its address and its length; `out` is always two numbers.
+// A lent array is its address and its length; `out` is always three numbers.
 unsafe extern "C" {
     fn sci3_play(
         state: *mut u64,
@@ -29,7 +30,7 @@ pub struct ProvedPlayer;
 impl Player for ProvedPlayer {
     fn play(&mut self, state: &mut [u64], script: &[u8], log: &mut [u8]) -> Result<Played, String> {
         // Numbers that no run gives, so that one not written shows.
-        let mut out = [u64::MAX; 2];
+        let mut out = [u64::MAX; 3];
         // Safe: each address and length are those of one array, lent for the
         // call only, and no two of them overlap.
         let number = unsafe {
@@ -46,11 +47,12 @@ impl Player for ProvedPlayer {
         if number > 9 {
             return Err(format!("sci3_play answers {number}"));
         }
-        let [offset, written] = out;
+        let [offset, written, length] = out;
         Ok(Played {
             number,
             offset,
             written,
+            length,
         })
     }
 }

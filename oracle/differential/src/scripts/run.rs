@@ -45,6 +45,7 @@ parts! {
     RunningThree = "running-three", "scripts of three bytes, a port at work",
     Logs = "logs", "log lengths from 0 to 40,960",
     Lengths = "lengths", "script lengths from 0 to 16,384",
+    Resets = "resets", "resets, waits and edges of the clock pin in every order, fresh port",
     Random = "random", "random scripts",
 }
 
@@ -64,6 +65,34 @@ const SHORT_LOGS: u64 = 12;
 const THREE_LOG: usize = 16;
 /// Scripts of each length, and of each log length.
 const EACH: u64 = 2;
+
+/// Commands of the part `resets`, on a port that is switched on: the module on
+/// and off, reset mode, the clock that stands, a wait, and the clock pin with
+/// its two levels. Every script of at most so many.
+const TURNS: [&str; 9] = [
+    "06 03",
+    "06 00",
+    "06 0B",
+    "06 01",
+    "03 05",
+    "02 9A FF 03 02",
+    "02 9A FF 03 00",
+    "05 00 01",
+    "05 01 01",
+];
+const MOST_TURNS: u32 = 6;
+
+/// The script of a number in that part: shorter ones first.
+fn turns(mut number: u64) -> Vec<u8> {
+    let many = TURNS.len() as u64;
+    let mut script = bytes("06 03");
+    while number > 0 {
+        number -= 1;
+        script.extend(bytes(TURNS[(number % many) as usize]));
+        number /= many;
+    }
+    script
+}
 
 /// Scripts whose ports are at work: sending and receiving in start-stop form,
 /// the clock pin counted, clocked output, reset mode, the line turned.
@@ -107,6 +136,7 @@ impl Walk {
             Part::Running => TWO * WORK.len() as u64,
             Part::Logs => (LOG as u64 + 1) * EACH,
             Part::Lengths => (SCRIPT as u64 + 1) * EACH,
+            Part::Resets => (0..=MOST_TURNS).map(|n| (TURNS.len() as u64).pow(n)).sum(),
             Part::Random => u64::MAX,
         };
         Self {
@@ -201,6 +231,12 @@ impl Ground {
                 let (origin, case) = make::case(seed, Some(length));
                 (Some(origin), case)
             }
+            // Each command has a record's room, and the next too.
+            Part::Resets => fixed(
+                &Start::Fresh,
+                turns(number),
+                RECORD * (MOST_TURNS as usize + 2),
+            ),
             Part::Random => {
                 let (origin, case) = make::case(number, None);
                 (Some(origin), case)
@@ -345,6 +381,7 @@ pub fn gate(scripts: u64, seed: u64) -> Vec<Walk> {
         Walk::whole(Part::Logs).last(12 * EACH),
         Walk::whole(Part::Lengths).every(61),
         Walk::whole(Part::Lengths).last(4 * EACH),
+        Walk::whole(Part::Resets),
         Walk::whole(Part::Random).from(seed, scripts),
     ]
 }
@@ -358,6 +395,7 @@ pub fn long(scripts: u64, seed: u64) -> Vec<Walk> {
         Walk::whole(Part::RunningThree),
         Walk::whole(Part::Logs),
         Walk::whole(Part::Lengths),
+        Walk::whole(Part::Resets),
         Walk::whole(Part::Random).from(seed, scripts),
     ]
 }
@@ -367,6 +405,7 @@ pub fn trial(scripts: u64, seed: u64) -> Vec<Walk> {
     let mut walks = vec![
         Walk::whole(Part::Running).every(7),
         Walk::whole(Part::Two).every(7),
+        Walk::whole(Part::Resets).every(7),
         Walk::whole(Part::Random).from(seed, 1000),
     ];
     let lengths = [Part::Logs, Part::Lengths];
