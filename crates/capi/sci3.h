@@ -11,7 +11,7 @@ extern "C" {
 #endif
 
 /* How many numbers a state has; how many bytes a record of the log has. */
-#define SCI3_STATE 53
+#define SCI3_STATE 56
 #define SCI3_RECORD 5
 
 /* An answer of 256 or more is a refusal: 256 plus its number. (sci3_play answers the number itself.) */
@@ -46,15 +46,18 @@ enum sci3_place {
     SCI3_SCK = 48,
     SCI3_SYNC_NEXT = 49,   /* 2 places */
     SCI3_TRANSMITTED = 51,
-    SCI3_RECEIVED = 52
+    SCI3_RECEIVED = 52,
+    SCI3_REMAINING = 53,
+    SCI3_SYSTEM = 54,
+    SCI3_WATCH = 55
 };
 
-/* Puts the port at the start of every run into the array, whatever it held: 0, or refusal 8 if it has not SCI3_STATE
+/* Puts the state at the start of every run into the array, whatever it held: 0, or refusal 8 if it has not SCI3_STATE
  * numbers. */
 uint64_t sci3_fresh(uint64_t *state, size_t length);
 
-/* Makes the direct call of a kind, 1 to 7, with its operands (an operand that the kind does not have is not looked at):
- * the value read, else 0, and the array holds the port after the call; or a refusal, and the array is as it was. */
+/* Makes the direct call of a kind, 1 to 9, with its operands (an operand that the kind does not have is not looked at):
+ * the value read, else 0, and the array holds the state after the call; or a refusal, and the array is as it was. */
 uint64_t sci3_call(uint64_t *state, size_t length, uint32_t kind, uint32_t a, uint32_t b);
 
 /* The pins: bits 0 and 1 the clock pin (0 not the port's, 1 floating, 2 low, 3 high), bits 2 and 3 the transmit level
@@ -67,7 +70,7 @@ uint64_t sci3_interrupt(const uint64_t *state, size_t length);
 /* Plays a script and writes a record to the log for each command that was played: 0 where the whole script was
  * accepted, else the number of the refusal. told[0] is the offset of the refused command's first byte, else 0; told[1]
  * how many bytes of the log are written, and no other byte of the log is touched; told[2] the run's length: the edges
- * of the clock that its commands counted, across resets, in 64 bits that wrap to 0. The array holds the last port,
+ * of the clock that its commands counted, across resets, in 64 bits that wrap to 0. The array holds the last state,
  * after a refusal the one before the refused command; by 8 it is as it was. */
 uint64_t sci3_play(uint64_t *state, size_t state_length, const uint8_t *script, size_t script_length, uint8_t *log,
                    size_t log_length, uint64_t told[3]);

@@ -32,8 +32,8 @@ static void put_word(uint64_t *state, unsigned value) {
 }
 
 int main(void) {
-    /* SSR is read, 9 halves pass, the module goes off, and 08 is no kind. */
-    static const uint8_t script[] = {0x01, 0x9c, 0xff, 0x03, 0x03, 0x09, 0x06, 0x00, 0x08};
+    /* SSR is read, 9 halves pass, the module goes off, and 0A is no kind. */
+    static const uint8_t script[] = {0x01, 0x9c, 0xff, 0x03, 0x03, 0x09, 0x06, 0x00, 0x0a};
     uint64_t state[SCI3_STATE] = {0}, told[3] = {0};
     uint8_t log[SCI3_RECORD * 8] = {0};
 

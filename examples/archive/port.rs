@@ -4,7 +4,7 @@
 //! `Port` owns the array and lends it for one call at a time, so nothing outside `mod sci3` can break the caller's duties.
 
 mod sci3 {
-    pub const STATE: usize = 53;
+    pub const STATE: usize = 56;
     pub const RECORD: usize = 5;
     const REFUSED: u64 = 256;
 
@@ -124,8 +124,8 @@ fn main() {
     call(&mut port, READ, 0x1234, 0);
 
     let mut log = [0; sci3::RECORD * 8];
-    // SSR is read, 9 halves pass, the module goes off, and 08 is no kind.
-    let played = port.play(&[0x01, 0x9c, 0xff, 0x03, 0x03, 0x09, 0x06, 0x00, 0x08], &mut log);
+    // SSR is read, 9 halves pass, the module goes off, and 0A is no kind.
+    let played = port.play(&[0x01, 0x9c, 0xff, 0x03, 0x03, 0x09, 0x06, 0x00, 0x0a], &mut log);
     for record in log[..played.used].chunks(sci3::RECORD) {
         let bytes: Vec<String> = record.iter().map(|byte| format!("{byte:02X}")).collect();
         println!("{}", bytes.join(" "));

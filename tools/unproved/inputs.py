@@ -5,8 +5,9 @@ from program import ask
 from questions import FORMAT, FRESH, FUNCTIONS, LOG, MOST, PLACE, PLACES, Question, answered, commands, encoded
 
 REGISTERS = SPCR, SMR, BRR, SCR, TDR, SSR, RDR, SEMR, IRCR = 0xFF91, 0xFF98, 0xFF99, 0xFF9A, 0xFF9B, 0xFF9C, 0xFF9D, 0xFFA6, 0xFFA7
-LIMIT = 4_000_000_000
+LIMIT, TOTAL = 4_000_000_000, 281_474_976_710_656
 PART = 2500  # questions asked at once
+CYCLES = (0, 1, 2, 15, 16, 17, 32, 63, 64, 65, 255, 256, 257, 512, 4096, 65535)
 WAITS = (0, 1, 2, 3, 4, 8, 15, 16, 17, 20, 31, 32, 33, 64, 100, 160, 288, 319, 320, 321, 352, 384, 416, 447, 448, 449, 450, 1000, 65535)
 MODES = (0, 0, 0, 0x20, 0x30, 0x24, 0x64, 0x74, 0x48, 0x08, 0x28, 0x68, 0x40, 0x80, 0x80, 0x90, 0x01, 0x81, 0x10, 0x04)
 ENABLES = (0x20, 0x10, 0x30, 0x30, 0x70, 0xF4, 0x22, 0x12, 0x32, 0x31, 0x33, 0)
@@ -25,7 +26,7 @@ def word_on_line(r, mark):
 
 
 def a_call(r):
-    kind = r.choice((1, 1, 2, 2, 2, 3, 3, 3, 3, 4, 4, 5, 5, 6, 7) * 4 + (0, 8))
+    kind = r.choice((1, 1, 2, 2, 2, 3, 3, 3, 3, 4, 4, 5, 5, 6, 7, 8, 8, 9) * 4 + (0, 10))
     if kind == 1:
         return (1, r.choice((SSR, SSR, RDR, *REGISTERS, 0xFF97, 0xFF9E, 0xFFA5, 65536)), 0)
     if kind == 2:
@@ -33,6 +34,8 @@ def a_call(r):
         return (2, address, r.choice({SMR: MODES, SCR: ENABLES}.get(address) or (*BYTES, r.randrange(257))))
     if kind == 3:
         return (3, r.choice((*WAITS, r.randrange(500))), 0)
+    if kind in (8, 9):
+        return (kind, r.choice((*CYCLES, r.randrange(600), 65536)), 0)
     if kind == 6:
         return (6, r.choice((3, 3, 3, 2, 0, 1, 5, 7, 11, 15, 16)), 0)
     levels = [r.choice((0, 1, 0, 1, 2)) for _ in range(2)]
@@ -68,9 +71,9 @@ def broken(r, script):
         if odds < 0.3:
             del out[at:]
         elif odds < 0.6:
-            out[at:at] = bytes.fromhex(r.choice(("80", "00", "FFFFFFFF0F", "FFFFFFFF10", "80808000", "808080808001", "08", "8001")))
+            out[at:at] = bytes.fromhex(r.choice(("80", "00", "FFFFFFFF0F", "FFFFFFFF10", "80808000", "808080808001", "08", "0A", "8001")))
         elif at < len(out):
-            out[at] = r.choice((0, 1, 2, 3, 4, 5, 6, 7, 8, 127, 128, 129, r.randrange(256)))
+            out[at] = r.choice((0, 1, 2, 3, 4, 5, 6, 7, 8, 9, 10, 127, 128, 129, r.randrange(256)))
     return bytes(out)
 
 
@@ -122,6 +125,10 @@ def altered(r, state):
             state[i] = min(half + r.choice((0, 1, 2, 447, 448, 449)), MOST[i])
         elif name in ("transmitted", "received"):
             state[i] = 2**64 - 1
+        elif name in ("system", "watch"):
+            state[i] = max(TOTAL + r.choice((1, 0, -1, -2, -16, -300)), 0)
+        elif name == "remaining":
+            state[i] = r.choice((0, 1, 2, 255, 256, 257))
         elif name == "rx.position":
             state[i] = 128 + r.choice((-3, -2, -1, 0, 1, 5, 6, 7, 8, 9, 10, 11))
         elif name == "bit_start":
@@ -158,9 +165,9 @@ def arguments(r, form):
         given["length"], given["at"] = r.randrange(12), r.randrange(14)
         given["n"] = r.choice((0, 1, 2, r.randrange(14)))
     if form in ("write_command", "Command::kind"):
-        given["kind"] = r.randrange(1, 8)
-    if form in ("command_of", "Kind::operands", "u8::from(Fault)", "u8::from(Refusal)"):
-        given[names[0]] = r.randrange(10)
+        given["kind"] = r.randrange(1, 10)
+    if form in ("command_of", "Kind::operands", "u8::from(Fault)", "u8::from(Refusal)", "u8::from(sci::Refusal)"):
+        given[names[0]] = r.randrange(12)
     if form.startswith("read"):
         given["at"] = r.randrange(4)
     return tuple((name, given[name]) for name in names if given[name])
@@ -183,10 +190,10 @@ class Inputs:
         printouts = [Question("printout", body=q.body) for q in scripts[:1500]]
         printouts += [Question("printout", body=b"\x07" * n) for n in (0, 1, 2, 16383, 16384, 16385)]
         self.add(printouts)
-        states = [[n for _, n in answered(q, a)][-53:] for q, _, a in self.families[1][:5000]]
-        assert [n for _, n in answered(Question("calls"), ask(right, [Question("calls").packed()])[0])][-53:] == FRESH
+        states = [[n for _, n in answered(q, a)][-len(FRESH):] for q, _, a in self.families[1][:5000]]
+        assert [n for _, n in answered(Question("calls"), ask(right, [Question("calls").packed()])[0])][-len(FRESH):] == FRESH
         self.add([self.on(r, altered(r, s)) for s in states * 2])
-        self.add([Question(form, length=n) for form in ("script", "calls", "sci3_fresh") for n in (52, 54, 53)])
+        self.add([Question(form, length=n) for form in ("script", "calls", "sci3_fresh") for n in (len(FRESH) - 1, len(FRESH) + 1, len(FRESH))])
         self.add([Question(form, ((name, most + 1),)) for form in ("script", "calls") for name, most in zip(PLACES, MOST) if most < 2**64 - 1])
         self.add([Question(form) for form in FUNCTIONS] + [self.of(r, form) for form in FUNCTIONS if form != "long" for _ in range(500)])
         self.add([Question("long", (("waits", n),)) for n in (1, 32768, 32769)])

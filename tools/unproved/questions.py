@@ -4,7 +4,7 @@
     calls 06 03, 03 05 on half=5 edge=1         the commands as direct calls, on the port that differs from a fresh one in these places of the array; `none`
                                                 is no command
     printout 06 03                              what the program prints for the script
-    sci3_fresh length=54                        an array of 54 numbers
+    sci3_fresh length=57                        an array of 57 numbers
     within due=1 next=5 half=5 left=3           a function of a crate; arguments that are 0 are left out
     long waits=3                                a script of 3 waits of 65535 halves, a power cycle and as many again
 
@@ -27,13 +27,14 @@ PLACES = (
     "spcr smr brr scr tdr ssr rdr semr ircr seen module main sub reset_mode half high edge".split()
     + [*under("holding", ("tag", "byte")), *under("tx", TX), *under("rx", ("tag", *RX))]
     + ["uart", "bit_start", "input", "input_clock", "sck", *under("sync_next", DUE), "transmitted", "received"]
+    + ["remaining", "system", "watch"]
 )
 B, W = 255, 2**32 - 1
 MOST = [B] * 10 + [1] * 4 + [W, 1, 1, 1, B] + [5, 1, B, 1, 1, B, W, 65535, B, 1, W, 1] + [1, 1, B, 1, 1, B, W, B, B, 1, B, 1, W]
-MOST += [1, W, 1, 1, 1, 1, W] + [2**64 - 1] * 2
-FRESH = [0xC0, 0, 255, 0, 255, 0x84, 0, 0, 0, 0, 0, 0, 0, 0, 0, 1, 0] + [0] * 14 + [0] * 13 + [1, 0, 1, 1, 1, 0, 0, 0, 0]
+MOST += [1, W, 1, 1, 1, 1, W] + [2**64 - 1] * 2 + [65535] + [2**64 - 1] * 2
+FRESH = [0xC0, 0, 255, 0, 255, 0x84, 0, 0, 0, 0, 0, 0, 0, 0, 0, 1, 0] + [0] * 14 + [0] * 13 + [1, 0, 1, 1, 1, 0, 0, 0, 0] + [256, 0, 0]
 PLACE = {name: i for i, name in enumerate(PLACES)}
-ARRAY = [*PLACES, "place 53"]  # of an array that is one number too long
+ARRAY = [*PLACES, "place 56"]  # of an array that is one number too long
 
 # Functions: the number that answers.rattle knows them by, arguments, results. A script's or a buffer's bytes come last.
 READ = ("fault", "value", "next")
@@ -78,8 +79,12 @@ FUNCTIONS = {
     "rx_synchronous": (42, ("tag", *RX), ("clocked",)),
     "rx_valid": (43, ("tag", *RX, "half"), ("valid",)),
     "long": (44, ("waits",), ("number", "length")),
+    "u8::from(sci::Refusal)": (45, ("refusal",), ("number",)),
+    # a direct call on a fresh port or state with these fields; 256 and the number where it is refused
+    "Port::direct": (46, ("kind", "a", "b", "module", "main", "half"), ("answer", "half")),
+    "Sci::direct": (47, ("kind", "a", "b", "module", "main", "half"), ("answer", "half", "remaining")),
 }
-OPERANDS = {1: 1, 2: 2, 3: 1, 4: 1, 5: 2, 6: 1}
+OPERANDS = {1: 1, 2: 2, 3: 1, 4: 1, 5: 2, 6: 1, 8: 1, 9: 1}
 LOG = 240
 
 
@@ -90,7 +95,7 @@ class Question:
     form: str
     given: tuple = ()
     body: bytes = b""
-    length: int = 53
+    length: int = len(PLACES)
     log: int = LOG
 
     def numbers(self):
@@ -105,7 +110,7 @@ class Question:
         if self.form == "sci3_fresh":
             return [self.length]
         state = []
-        if given or self.length != 53:
+        if given or self.length != len(PLACES):
             state = (FRESH + [0] * 64)[: self.length]
             for name, n in given.items():
                 if PLACE[name] < self.length:
@@ -124,7 +129,7 @@ class Question:
         """What is read sooner is smaller: fewer places given, fewer commands, then smaller numbers."""
         calls = commands(self.body)[0]
         numbers = sum(n for _, n in self.given) + sum(sum(c) for c in calls)
-        return (len(self.given), self.length != 53, len(calls), self.log != LOG, len(self.body), numbers, sum(self.body))
+        return (len(self.given), self.length != len(PLACES), len(calls), self.log != LOG, len(self.body), numbers, sum(self.body))
 
     def __str__(self):
         words = [self.form]
@@ -134,7 +139,7 @@ class Question:
             words.append(in_hex(self.body))
         if self.form == "script" and self.log != LOG:
             words.append(f"log={self.log}")
-        if self.length != 53 or self.form == "sci3_fresh":
+        if self.length != len(PLACES) or self.form == "sci3_fresh":
             words.append(f"length={self.length}")
         if self.given and self.form in ("calls", "script"):
             words.append("on")

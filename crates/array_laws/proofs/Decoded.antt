@@ -1,4 +1,4 @@
--- A port that an array holds is typed: each number of it stands at a place whose greatest it does not pass.
+-- A state that an array holds is typed: each number of it stands at a place whose greatest it does not pass.
 -- Assumes nothing.
 use Rattle.std.specs.Prelude.{Option, None, Some}
 use mathlib.Core.Path.{◌≡◌, refl, subst}
@@ -12,9 +12,9 @@ use lib.Signed.{mag}
 use borrow.Author.Tests.{leb-true, leb-false}
 use Rattle.branches.proofs.Branches.{by_cond, both_arms}
 use Rattle.shift.specs.declared.Character.{Character}
-use Rattle.port.specs.declared.Port.{Port}
-use Rattle.capi.specs.State.{u8_max, u32_max, flag, at, due_max, holding_max, format_max, character_max, tx_max, word_max, rx_max, port_max, fits, number_in, format_in, character_in, tail_of, tx_of, tx_in, position_of, word_in, rx_in, port_of, port_in, decode}
-use Rattle.capi.specs.Round.{DueTyped, HoldingTyped, FormatTyped, CharacterTyped, TxTyped, RxTyped, ReceiverTyped, PortTyped}
+use Rattle.sci.specs.declared.Sci.{Sci}
+use Rattle.capi.specs.State.{u8_max, u32_max, flag, at, due_max, holding_max, format_max, character_max, tx_max, word_max, rx_max, port_max, baud_max, state_max, fits, number_in, format_in, character_in, tail_of, tx_of, tx_in, position_of, word_in, rx_in, port_of, port_in, baud_in, sci_in, decode}
+use Rattle.capi.specs.Round.{DueTyped, HoldingTyped, FormatTyped, CharacterTyped, TxTyped, RxTyped, ReceiverTyped, PortTyped, BaudTyped, SciTyped}
 use Rattle.capi.proofs.Fits.{fits_at, part_fits}
 use Rattle.array_laws.specs.Typed.{DecodedTyped}
 
@@ -97,12 +97,21 @@ port_in_typed s h =
       received≤ = fits_at port_max s 52 h;
     }
 
--- ---- the port
-TypedIn : Option Port → Type 0
+baud_in_typed : (s : List ℕ) → fits baud_max s ≡ true → BaudTyped (baud_in s)
+unfolding baud_in
+baud_in_typed s h = record { remaining≤ = fits_at baud_max s 0 h; system≤ = fits_at baud_max s 1 h; watch≤ = fits_at baud_max s 2 h }
+
+sci_in_typed : (s : List ℕ) → fits state_max s ≡ true → SciTyped (sci_in s)
+unfolding sci_in
+sci_in_typed s h =
+    record { port = port_in_typed _ (part_fits state_max port_max s 0 53 h refl); baud = baud_in_typed _ (part_fits state_max baud_max s 53 3 h refl) }
+
+-- ---- the state
+TypedIn : Option Sci → Type 0
 TypedIn None = Unit {0}
-TypedIn (Some p) = PortTyped p
+TypedIn (Some s) = SciTyped s
 
 pub decoded_typed : DecodedTyped
 unfolding DecodedTyped decode TypedIn
-decoded_typed s p e =
-    subst TypedIn e (by_cond TypedIn (fits port_max s) (Some (port_in s)) None (λ h. port_in_typed s h) (λ h. tt))
+decoded_typed array s e =
+    subst TypedIn e (by_cond TypedIn (fits state_max array) (Some (sci_in array)) None (λ h. sci_in_typed array h) (λ h. tt))

@@ -1,4 +1,4 @@
--- A port that passes the field test, and whose other numbers are in range (port_laws' Ranges.antt), is typed; so every grown port is.
+-- A state that passes the field test, and whose other numbers are in range (port_laws' Ranges.antt), is typed; so every grown state is.
 -- Assumes nothing.
 use Rattle.std.specs.Prelude.{Option, None, Some}
 use mathlib.Core.Path.{◌≡◌, refl, subst}
@@ -22,20 +22,25 @@ use Rattle.shift.specs.Valid.{character_valid}
 use Rattle.shift.specs.Private.Ready.{PlacedIn}
 use Rattle.shift.proofs.SignedLaws.{place_mag}
 use Rattle.port.specs.declared.Port.{Port}
-use Rattle.port.specs.Calls.{run}
-use Rattle.port.specs.Power.{fresh}
-use Rattle.port.specs.Valid.{limit, valid}
+use Rattle.port.specs.Valid.{limit, valid as port_valid}
 use Rattle.port.proofs.Checked.{valid_ready}
 use Rattle.branches.proofs.Branches.{both_arms}
-use Rattle.port_laws.specs.Laws.{AcceptedPasses, GrownPasses}
-use Rattle.port_laws.specs.Ranges.{HeldInRange, WordInRange, InRange, KeepsRanges, GrownInRange}
+use Rattle.port_laws.specs.Ranges.{HeldInRange, WordInRange, InRange}
 use Rattle.port_laws.proofs.KeepSender.{DueMaybe, Good, GoodLoaded, cell_end, TxFits, by_maybe}
 use Rattle.port_laws.proofs.KeepReceiver.{RxFits}
 use Rattle.port_laws.proofs.KeepValid.{Sound, valid_sound}
-use Rattle.port_laws.proofs.Laws.{accepted_passes, grown_passes}
-use Rattle.port_laws.proofs.Ranges.{Three, three, keeps_ranges, grown_in_range}
+use Rattle.port_laws.proofs.Ranges.{Three, three}
+use Rattle.recovery.specs.Layers.{state_after}
+use Rattle.sci.specs.declared.Sci.{Sci}
+use Rattle.sci.specs.Calls.{fresh, valid}
+use Rattle.sci.specs.Laws.{AcceptedPasses}
+use Rattle.sci.proofs.Laws.{accepted_passes}
+use Rattle.sci.proofs.Steps.{port_passes, sound as sci_sound}
+use Rattle.sci_laws.specs.Laws.{GrownPasses, GrownInRange, KeepsRanges}
+use Rattle.sci_laws.specs.Translate.{run}
+use Rattle.sci_laws.proofs.Laws.{grown_passes, grown_in_range, keeps_ranges}
 use Rattle.capi.specs.State.{u16_max}
-use Rattle.capi.specs.Round.{DueTyped, HoldingTyped, FormatTyped, CharacterTyped, LoadedTyped, TxTyped, ReceiverTyped, PortTyped}
+use Rattle.capi.specs.Round.{DueTyped, HoldingTyped, FormatTyped, CharacterTyped, LoadedTyped, TxTyped, ReceiverTyped, PortTyped, SciTyped}
 use Rattle.array_laws.specs.Typed.{FreshTyped, KeepsTyped, GrownTyped}
 use Rattle.shift.specs.declared.Rx.{Rx}
 
@@ -103,7 +108,7 @@ holding_typed None w = tt
 holding_typed (Some b) w = omega (arith, w)
 
 -- ---- with the ranges
-pub port_typed : (p : Port) → valid p ≡ true → InRange p → PortTyped p
+port_typed : (p : Port) → port_valid p ≡ true → InRange p → PortTyped p
 port_typed p e k =
     let s : Sound p = valid_sound p e in
     let t : Three p = three p e in
@@ -127,6 +132,14 @@ port_typed p e k =
       next = due_typed h s.low p.sync_next s.kept.due;
       transmitted≤ = omega (arith, k.transmitted<);
       received≤ = omega (arith, k.received<);
+    }
+
+sci_typed : (s : Sci) → valid s ≡ true → InRange s.port → SciTyped s
+sci_typed s e k =
+    let b = sci_sound s e in
+    record {
+      port = port_typed s.port (port_passes s e) k;
+      baud = record { remaining≤ = omega (arith, b.few); system≤ = omega (arith, b.system); watch≤ = omega (arith, b.watch) };
     }
 
 -- ---- and back: what is typed is in range
@@ -154,15 +167,16 @@ typed_in_range p t =
       received< = omega (arith, t.received≤);
     }
 
--- ---- every grown port
+-- ---- every grown state
 pub keeps_typed : KeepsTyped
 unfolding KeepsTyped KeepsRanges AcceptedPasses
-keeps_typed c p q v t r = port_typed q (accepted_passes c p q v r) (keeps_ranges c p q v (typed_in_range p t) r)
+keeps_typed c s t v k e =
+    let r : InRange s.port = typed_in_range s.port k.port in sci_typed t (accepted_passes c s t v r.brr< e) (keeps_ranges c s t v r e)
 
 pub grown_typed : GrownTyped
 unfolding GrownTyped GrownPasses GrownInRange
-grown_typed cs = port_typed (run fresh cs) (grown_passes cs) (grown_in_range cs)
+grown_typed cs = sci_typed (run fresh cs) (grown_passes cs) (grown_in_range cs)
 
 pub fresh_typed : FreshTyped
-unfolding FreshTyped GrownTyped run
+unfolding FreshTyped GrownTyped state_after
 fresh_typed = grown_typed []

@@ -18,10 +18,12 @@ use Rattle.shift.specs.declared.Tx.{Tx}
 use Rattle.shift.specs.declared.Tx.TheVariants.{Off, Blocked, Mark, Start, Data, Tail}
 use Rattle.shift.specs.declared.Rx.{Rx}
 use Rattle.shift.specs.Sender.{tx_next}
-use Rattle.capi.specs.State.{flag, number_list, format_list, character_list, tx_character, tx_cell, tx_loaded, tx_tag, tx_list, position_number, word_list, rx_list, register_list, power_list, line_list, encode, u8_max, u32_max, u64_max, due_max, holding_max, format_max, character_max, tx_max, word_max, rx_max, register_max, power_max, line_max, port_max, fits, number_in, format_in, character_in, tail_of, tx_of, tx_in, position_of, word_in, rx_in, port_of, port_in, decode}
+use Rattle.sci.specs.declared.Baud.{Baud}
+use Rattle.sci.specs.declared.Sci.{Sci}
+use Rattle.capi.specs.State.{flag, number_list, format_list, character_list, tx_character, tx_cell, tx_loaded, tx_tag, tx_list, position_number, word_list, rx_list, register_list, power_list, line_list, port_list, baud_list, encode, u8_max, u32_max, u64_max, due_max, holding_max, format_max, character_max, tx_max, word_max, rx_max, register_max, power_max, line_max, port_max, baud_max, state_max, fits, number_in, format_in, character_in, tail_of, tx_of, tx_in, position_of, word_in, rx_in, port_of, port_in, baud_in, sci_in, decode}
 use Rattle.frame.proofs.Truth.{and_left, and_right}
 use Rattle.frame.proofs.Laws.{one_if≤}
-use Rattle.capi.specs.Round.{DueTyped, HoldingTyped, FormatTyped, CharacterTyped, TxTyped, RxTyped, ReceiverTyped, PortTyped, RoundTrip}
+use Rattle.capi.specs.Round.{DueTyped, HoldingTyped, FormatTyped, CharacterTyped, TxTyped, RxTyped, ReceiverTyped, PortTyped, BaudTyped, SciTyped, RoundTrip}
 
 -- ---- an encoding fits
 fits_cons : (m x : ℕ) (ms xs : List ℕ) → x ≤ m → fits ms xs ≡ true → fits (m ∷ ms) (x ∷ xs) ≡ true
@@ -107,14 +109,21 @@ module _ (p : Port) (h : PortTyped p) where
   line_fits =
       search (h.start≤, fits_append due_max (number_list p.sync_next) _ _ (due_fits p.sync_next h.next) tally_fits, sums) depth 20
 
-  encode_fits : fits port_max (encode p) ≡ true
-  unfolding encode
-  encode_fits =
+  port_fits : fits port_max (port_list p) ≡ true
+  unfolding port_list
+  port_fits =
       fits_append register_max (register_list p) _ _ register_fits
       (fits_append power_max (power_list p) _ _ power_fits
       (fits_append holding_max (number_list p.holding) _ _ (holding_fits p.holding h.holding)
       (fits_append tx_max (tx_list p.tx) _ _ (tx_fits p.tx h.tx)
       (fits_append rx_max (rx_list p.rx) _ _ (rx_fits p.rx h.rx) line_fits))))
+
+baud_fits : (b : Baud) → BaudTyped b → fits baud_max (baud_list b) ≡ true
+baud_fits b h = search (h.remaining≤, h.system≤, h.watch≤, sums) depth 20
+
+encode_fits : (s : Sci) → SciTyped s → fits state_max (encode s) ≡ true
+unfolding encode
+encode_fits s h = fits_append port_max (port_list s.port) _ _ (port_fits s.port h.port) (baud_fits s.baud h.baud)
 
 -- ---- and is read back
 flag_back : (b : Bool) → flag (one_if b) ≡ b
@@ -173,8 +182,8 @@ unfolding rx_in
 rx_back None h = refl
 rx_back (Some r) h = ap Some (word_back r h.position<)
 
-port_back : (p : Port) → PortTyped p → port_in (encode p) ≡ p
-unfolding port_in port_of encode
+port_back : (p : Port) → PortTyped p → port_in (port_list p) ≡ p
+unfolding port_in port_of port_list
 port_back p h =
     λ i.
     record {
@@ -208,7 +217,10 @@ port_back p h =
       received = p.received;
     }
 
+sci_back : (s : Sci) → SciTyped s → sci_in (encode s) ≡ s
+unfolding sci_in baud_in encode port_list
+sci_back s h = λ i. record { port = port_back s.port h.port i; baud = s.baud }
+
 pub round_trip : RoundTrip
 unfolding decode
-round_trip p h =
-    ap (λ (b : Bool). cond b (Some (port_in (encode p))) None) (encode_fits p h) ∙ ap Some (port_back p h)
+round_trip s h = ap (λ (b : Bool). cond b (Some (sci_in (encode s))) None) (encode_fits s h) ∙ ap Some (sci_back s h)

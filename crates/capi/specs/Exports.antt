@@ -7,14 +7,12 @@ use Rattle.pins.specs.declared.Drive.{Drive}
 use Rattle.pins.specs.declared.Drive.TheVariants.{Floating, Low, High}
 use Rattle.pins.specs.declared.Pins.{Pins}
 use Rattle.command.specs.Command.{command_of}
-use Rattle.port.specs.Calls.{Answer, done, refused, direct}
 use Rattle.pins.specs.Pins.{pins, interrupt, level_number}
-use Rattle.port.specs.Power.{fresh}
-use Rattle.port.specs.Valid.{valid}
-use Rattle.port.specs.declared.Port.{Port}
+use Rattle.sci.specs.declared.Sci.{Sci}
+use Rattle.sci.specs.Calls.{Answer, done, refused, fresh, valid, direct}
 use Rattle.machine.specs.Machine.{Run}
 use Rattle.player.specs.Play.{Progress, play}
-use Rattle.capi.specs.State.{decode, encode, port_max}
+use Rattle.capi.specs.State.{decode, encode, state_max}
 
 -- an answer, and the array after it
 pub record Lent : Type 0 where
@@ -28,16 +26,16 @@ abbrev pub refusal : ℕ → ℕ
 refusal n = 256 + n
 
 -- ---- sci3_call
--- the value read, or 0, and the port after the call
+-- the value read, or 0, and the state after the call
 abbrev pub call_left : List ℕ → Answer → Lent
 call_left s (done v q) = lent v (encode q)
 call_left s (refused n offset q) = lent (refusal n) s
 
 -- "Direct calls test 8" first, so it comes before the test of the kind
-abbrev pub call_on : ℕ → ℕ → ℕ → List ℕ → Option Port → Lent
+abbrev pub call_on : ℕ → ℕ → ℕ → List ℕ → Option Sci → Lent
 call_on kind a b s None = lent (refusal 8) s
 call_on kind a b s (Some p) =
-    cond (valid p) (cond (leb 1 kind && leb kind 7) (call_left s (direct (command_of kind a b) p)) (lent (refusal 7) s)) (lent (refusal 8) s)
+    cond (valid p) (cond (leb 1 kind && leb kind 9) (call_left s (direct (command_of kind a b) p)) (lent (refusal 7) s)) (lent (refusal 8) s)
 
 unfoldable pub call : ℕ → ℕ → ℕ → List ℕ → Lent
 call kind a b s = call_on kind a b s (decode s)
@@ -57,17 +55,17 @@ clock_number (Some d) = drive_number d
 unfoldable pub pins_number : Pins → ℕ
 pins_number x = clock_number x.clock + (4 * level_number x.transmit + 16 * one_if x.receive)
 
-abbrev pub pins_on : Option Port → ℕ
+abbrev pub pins_on : Option Sci → ℕ
 pins_on None = refusal 8
-pins_on (Some p) = pins_number (pins p)
+pins_on (Some s) = pins_number (pins s.port)
 
 unfoldable pub pins_answer : List ℕ → ℕ
 pins_answer s = pins_on (decode s)
 
 -- ---- sci3_interrupt
-abbrev pub interrupt_on : Option Port → ℕ
+abbrev pub interrupt_on : Option Sci → ℕ
 interrupt_on None = refusal 8
-interrupt_on (Some p) = one_if (interrupt p)
+interrupt_on (Some s) = one_if (interrupt s.port)
 
 unfoldable pub interrupt_answer : List ℕ → ℕ
 interrupt_answer s = interrupt_on (decode s)
@@ -75,7 +73,7 @@ interrupt_answer s = interrupt_on (decode s)
 -- ---- sci3_fresh
 -- whatever the array held, if it is as long as a state
 unfoldable pub fresh_state : List ℕ → Lent
-fresh_state s = cond (eqb (length s) (length port_max)) (lent 0 (encode fresh)) (lent (refusal 8) s)
+fresh_state s = cond (eqb (length s) (length state_max)) (lent 0 (encode fresh)) (lent (refusal 8) s)
 
 -- ---- sci3_play
 -- document 01's number (0: accepted); told: the offset of the refused command's first byte, how many bytes of the log are written, and the run's length;
@@ -91,9 +89,9 @@ playing n t s l = record { number = n; told = t; state = s; log = l }
 
 -- by 8 the array stays as it was
 abbrev pub run_left : List ℕ → Run Progress → Playing
-run_left s r = playing r.number (r.offset ∷ r.used ∷ r.state.length ∷ []) (cond (eqb r.number 8) s (encode r.state.port)) r.log
+run_left s r = playing r.number (r.offset ∷ r.used ∷ r.state.length ∷ []) (cond (eqb r.number 8) s (encode r.state.sci)) r.log
 
-abbrev pub play_on : List ℕ → List ℕ → List ℕ → Option Port → Playing
+abbrev pub play_on : List ℕ → List ℕ → List ℕ → Option Sci → Playing
 play_on s script log None = playing 8 (0 ∷ 0 ∷ 0 ∷ []) s log
 play_on s script log (Some p) = run_left s (play p script log)
 

@@ -1,5 +1,5 @@
--- Decoding what was encoded gives the port back: of every port whose numbers are in the ranges of their declared types, as are those of every port that an
--- array holds and of every port grown from a fresh one (array_laws' Typed.antt).
+-- Decoding what was encoded gives the state back: of every state whose numbers are in the ranges of their declared types, as are those of every state that an
+-- array holds and of every one grown from a fresh one (array_laws' Typed.antt).
 -- Assumes nothing.
 use Rattle.std.specs.Prelude.{◌≡◌, ◌≤◌, ◌<◌, Option, None, Some, ℕ}
 use Rattle.std.specs.Int.Signed.{mag}
@@ -9,6 +9,8 @@ use Rattle.shift.specs.declared.Character.{Character}
 use Rattle.shift.specs.declared.Tx.{Tx}
 use Rattle.shift.specs.declared.Tx.TheVariants.{Off, Blocked, Mark, Start, Data, Tail}
 use Rattle.shift.specs.declared.Rx.{Rx}
+use Rattle.sci.specs.declared.Baud.{Baud}
+use Rattle.sci.specs.declared.Sci.{Sci}
 use Rattle.capi.specs.State.{u8_max, u16_max, u32_max, u64_max, decode, encode}
 
 abbrev pub DueTyped : Option ℕ → Type 0
@@ -72,5 +74,14 @@ pub record PortTyped (p : Port) : Type 0 where
   pub transmitted≤ : p.transmitted ≤ u64_max
   pub received≤ : p.received ≤ u64_max
 
+pub record BaudTyped (b : Baud) : Type 0 where
+  pub remaining≤ : b.remaining ≤ u16_max
+  pub system≤ : b.system ≤ u64_max
+  pub watch≤ : b.watch ≤ u64_max
+
+pub record SciTyped (s : Sci) : Type 0 where
+  pub port : PortTyped s.port
+  pub baud : BaudTyped s.baud
+
 abbrev pub RoundTrip : Type 0
-RoundTrip = (p : Port) → PortTyped p → decode (encode p) ≡ Some p
+RoundTrip = (s : Sci) → SciTyped s → decode (encode s) ≡ Some s

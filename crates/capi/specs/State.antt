@@ -1,4 +1,4 @@
--- A port as a list of numbers, one for each field in the order of the fields of `Sci`, and back.
+-- The state as a list of numbers and back: the port, one for each field in the order of the fields of `Sci` of sci.rs, and after them its clock.
 --   0 to 9    SPCR, SMR, BRR, SCR, TDR, SSR, RDR, SEMR, IRCR, and the status bits seen
 --   10 to 13  module, main clock, subclock, reset mode
 --   14 to 16  half count, clock phase, edge
@@ -8,6 +8,7 @@
 --   44 to 48  transmit line, bit start, receive line, clock pin, clock of clocked form
 --   49, 50    its next edge
 --   51, 52    tallies of words sent and received
+--   53 to 55  ticks that remain to the next half, cycles of the system clock and of the watch clock
 -- A bool is 0 or 1. An enum is its variant's number, counted from 0 in the order of its declaration, and then its values at places of their own; a place
 -- that a variant does not use is written as 0; where the list is read, only its range is looked at.
 -- Assumes nothing.
@@ -20,8 +21,10 @@ use Rattle.shift.specs.declared.Tx.{Tx}
 use Rattle.shift.specs.declared.Tx.TheVariants.{Off, Blocked, Mark, Start, Data, Tail}
 use Rattle.shift.specs.declared.Rx.{Rx}
 use Rattle.shift.specs.Sender.{tx_next}
+use Rattle.sci.specs.declared.Baud.{Baud}
+use Rattle.sci.specs.declared.Sci.{Sci}
 
--- ---- a port as numbers
+-- ---- the state as numbers
 -- whether there is a value
 abbrev pub tag : {A : Type 0} → Option A → ℕ
 tag None = 0
@@ -109,9 +112,15 @@ line_list p =
     one_if p.uart ∷ p.bit_start ∷ one_if p.input ∷ one_if p.input_clock ∷ one_if p.sck
     ∷ (number_list p.sync_next ++ (p.transmitted ∷ p.received ∷ []))
 
-unfoldable pub encode : Port → List ℕ
-encode p =
+unfoldable pub port_list : Port → List ℕ
+port_list p =
     register_list p ++ (power_list p ++ (number_list p.holding ++ (tx_list p.tx ++ (rx_list p.rx ++ line_list p))))
+
+abbrev pub baud_list : Baud → List ℕ
+baud_list b = b.remaining ∷ b.system ∷ b.watch ∷ []
+
+unfoldable pub encode : Sci → List ℕ
+encode s = port_list s.port ++ baud_list s.baud
 
 -- ---- the greatest number of each place
 abbrev pub bit_max : ℕ
@@ -162,6 +171,12 @@ line_max = bit_max ∷ u32_max ∷ bit_max ∷ bit_max ∷ bit_max ∷ (due_max 
 abbrev pub port_max : List ℕ
 port_max = register_max ++ (power_max ++ (holding_max ++ (tx_max ++ (rx_max ++ line_max))))
 
+abbrev pub baud_max : List ℕ
+baud_max = u16_max ∷ u64_max ∷ u64_max ∷ []
+
+abbrev pub state_max : List ℕ
+state_max = port_max ++ baud_max
+
 -- as many numbers as there are places, none above its place's greatest
 unfoldable pub fits : List ℕ → List ℕ → Bool
 fits [] [] = true
@@ -169,7 +184,7 @@ fits [] (x ∷ xs) = false
 fits (m ∷ ms) [] = false
 fits (m ∷ ms) (x ∷ xs) = leb x m && fits ms xs
 
--- ---- numbers as a port
+-- ---- numbers as a state
 abbrev pub flag : ℕ → Bool
 flag n = not (eqb n 0)
 
@@ -262,6 +277,12 @@ port_of s h t r d =
 unfoldable pub port_in : List ℕ → Port
 port_in s = port_of s (number_in (part 17 2 s)) (tx_in (part 19 12 s)) (rx_in (part 31 13 s)) (number_in (part 49 2 s))
 
--- the port that a list is, if it is one
-unfoldable pub decode : List ℕ → Option Port
-decode s = cond (fits port_max s) (Some (port_in s)) None
+unfoldable pub baud_in : List ℕ → Baud
+baud_in s = record { remaining = at s 0; system = at s 1; watch = at s 2 }
+
+unfoldable pub sci_in : List ℕ → Sci
+sci_in s = record { port = port_in (part 0 53 s); baud = baud_in (part 53 3 s) }
+
+-- the state that a list is, if it is one
+unfoldable pub decode : List ℕ → Option Sci
+decode s = cond (fits state_max s) (Some (sci_in s)) None

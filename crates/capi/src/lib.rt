@@ -1,23 +1,24 @@
-// SCI3 for programs in other languages: a port's state in a lent array of numbers, the direct calls on it, and the player of scripts. Rattle crates call
+// SCI3 for programs in other languages: the state of a port and its clock in a lent array of numbers, the direct calls on it, and the player of scripts. Rattle crates call
 // these functions, and so does crate capi_c, the static library by which C calls them.
 #![tactic(auto)]
 
 ghost use Rattle.std.specs.Prelude.{◌≡◌, true, cond, ◌+◌, ◌≤◌, ◌++◌, eqb, length, take, OnSome};
 ghost use Rattle.capi.specs.Exports.{lent, call_left, call, pins_number, pins_answer, interrupt_answer, fresh_state, playing, played};
-ghost use Rattle.capi.specs.State.{tag, number_list, format_list, tx_tag, tx_character, tx_cell, tx_loaded, tx_list, position_number, rx_list, register_list, power_list, line_list, encode, format_max, character_max, tx_max, word_max, rx_max, port_max, fits, number_in, format_in, character_in, tx_of, tx_in, position_of, word_in, rx_in, port_of, port_in, decode};
+ghost use Rattle.capi.specs.State.{tag, number_list, format_list, tx_tag, tx_character, tx_cell, tx_loaded, tx_list, position_number, rx_list, register_list, power_list, line_list, port_list, baud_list, encode, format_max, character_max, tx_max, word_max, rx_max, port_max, baud_max, state_max, fits, number_in, format_in, character_in, tx_of, tx_in, position_of, word_in, rx_in, port_of, port_in, baud_in, sci_in, decode};
 ghost use Rattle.player.specs.Play.{end_number};
-ghost use Rattle.port.specs.Calls.{answer};
+ghost use Rattle.sci.specs.Calls.{answered};
 
 use command::Kind;
 use frame::Format;
 use pins::Pins;
 use player::{Reason, Refused};
-use port::{Called, Port, Refusal};
+use port::Port;
+use sci::{Baud, Refusal, Sci, Tested};
 use script::Fault;
 use shift::{Character, Rx, Tx};
 
 // How many numbers a state has, and the greatest that C may give for each.
-pub const STATE: usize = 53;
+pub const STATE: usize = 56;
 
 const MAXIMA: [u64; STATE] = [
     255,
@@ -73,9 +74,12 @@ const MAXIMA: [u64; STATE] = [
     4294967295,
     18446744073709551615,
     18446744073709551615,
+    65535,
+    18446744073709551615,
+    18446744073709551615,
 ];
 
-// ---- a port as numbers
+// ---- the state as numbers
 // Whether there is a value.
 fn tag<T: Copy>(x: Option<T>) -> u64
     ensures { result ≡ tag x }
@@ -280,7 +284,13 @@ fn line_words(p: Port) -> [u64; 9]
     ]
 }
 
-// ---- numbers as a port
+fn baud_words(b: Baud) -> [u64; 3]
+    ensures { result ≡ baud_list b }
+{
+    [u64::from(b.remaining), b.system, b.watch]
+}
+
+// ---- numbers as a state
 // Each of these reads a part of the array, whose numbers fit the places of that part: as a type that would be one for each part. A part of a slice is a
 // slice; as an array its length would be tested where the test cannot fail.
 // A number, if there is one. Callers narrow it: the place that they read it from says how large it may be.
@@ -447,22 +457,47 @@ fn port_in(s: &[u64]) -> Port
     port_of(s, holding, tx, rx, sync_next)
 }
 
+#[tactic(auto, using(crate::proofs::Fits::placed), unfolding(crate::specs::State::baud_in))]
+fn baud_in(s: &[u64]) -> Baud
+    requires sized { length s.now ≡ 3 }
+    requires fits { fits baud_max s.now ≡ true }
+    ensures { result ≡ baud_in s.now }
+{
+    Baud {
+        remaining: s[0] as u16,
+        system: s[1],
+        watch: s[2],
+    }
+}
+
+#[tactic(auto, using(crate::proofs::Fits::placed), unfolding(crate::specs::State::sci_in))]
+fn sci_in(s: &[u64]) -> Sci
+    requires sized { length s.now ≡ 56 }
+    requires fits { fits state_max s.now ≡ true }
+    ensures { result ≡ sci_in s.now }
+{
+    Sci {
+        port: port_in(&s[0..53]),
+        baud: baud_in(&s[53..56]),
+    }
+}
+
 // ---- the lent array: C lends it, so that it is as long as a state is a clause and no type
 // Whether it is a state: as many numbers as there are places, none above its place's greatest.
 #[tactic(auto, using(crate::proofs::Fits::fits_short))]
 fn is_state(s: &[u64]) -> bool
-    ensures { result ≡ fits port_max s.now }
+    ensures { result ≡ fits state_max s.now }
 {
     s.len() == STATE && s.iter().zip(MAXIMA.iter()).all(|(n, most)| n <= most)
 }
 
-// The port in the array, if it is a state.
+// The state in the array, if it is one.
 #[tactic(auto, using(crate::proofs::Fits::fits_length), unfolding(crate::specs::State::decode))]
-fn decode(s: &[u64]) -> Option<Port>
+fn decode(s: &[u64]) -> Option<Sci>
     ensures value { result ≡ decode s.now }
-    ensures sized { OnSome result (length s.now ≡ length port_max) }
+    ensures sized { OnSome result (length s.now ≡ length state_max) }
 {
-    is_state(s).then(|| port_in(s))
+    is_state(s).then(|| sci_in(s))
 }
 
 // Puts numbers at a place of the array, after those that stand before it. The array is C's, so the place is an offset into it.
@@ -483,14 +518,23 @@ fn store_first(s: &mut [u64], p: Port)
     put(s, 17, &number_words(p.holding.map(|b| u64::from(b))));
 }
 
-fn store(s: &mut [u64], p: Port)
-    requires { length s.old ≡ length port_max }
-    ensures { s.new ≡ encode p }
+fn store_port(s: &mut [u64], p: Port)
+    requires { 53 ≤ length s.old }
+    ensures { take 53 s.new ≡ port_list p }
 {
     store_first(s, p);
     put(s, 19, &tx_words(p.tx));
     put(s, 31, &rx_words(p.rx));
     put(s, 44, &line_words(p));
+}
+
+// Puts a state's numbers into the array.
+fn store(s: &mut [u64], sci: Sci)
+    requires { length s.old ≡ length state_max }
+    ensures { s.new ≡ encode sci }
+{
+    store_port(s, sci.port);
+    put(s, 53, &baud_words(sci.baud));
 }
 
 // ---- the functions that capi_c exports
@@ -500,35 +544,39 @@ const REFUSED: u64 = 256;
 // A kind that is none of the table, and an array that is no state that passes the field test.
 const UNKNOWN: u64 = REFUSED + Fault::Kind as u64;
 
-const NO_STATE: u64 = REFUSED + Refusal::State as u64;
+const NO_STATE: u64 = REFUSED + port::Refusal::State as u64;
 
 // The array after a call, and the call's answer: C is told numbers.
-fn call_left(s: &mut [u64], port: Port, called: Result<Called, Refusal>) -> u64
-    requires { length s.old ≡ length port_max }
-    ensures { lent result s.new ≡ call_left s.old (answer port called) }
+fn call_left(s: &mut [u64], sci: Sci, value: Result<u8, Refusal>) -> u64
+    requires { length s.old ≡ length state_max }
+    ensures { lent result s.new ≡ call_left s.old (answered value sci) }
 {
-    match called {
-        Ok(Called { value, port }) => {
-            store(s, port);
+    match value {
+        Ok(value) => {
+            store(s, sci);
             u64::from(value)
         }
         Err(refusal) => REFUSED + u64::from(u8::from(refusal)),
     }
 }
 
-// Makes the direct call of a kind on the port in the array. C has no `Kind`: it gives a number.
+// Makes the direct call of a kind on the state in the array. C has no `Kind`: it gives a number. The state is changed in its place, so that it is not copied
+// once more.
 #[tactic(auto, unfolding(crate::specs::Exports::call))]
 pub fn sci3_call(state: &mut [u64], kind: u32, a: u32, b: u32) -> u64
     ensures { lent result state.new ≡ call kind a b state.old }
 {
-    let Some(port) = decode(state) else {
+    let Some(sci) = decode(state) else {
+        return NO_STATE;
+    };
+    let Ok(mut tested) = Tested::try_from(sci) else {
         return NO_STATE;
     };
     let Ok(kind) = Kind::try_from(kind) else {
-        // The direct call tests 8 itself; a kind without one must not come before it.
-        return if port.valid() { UNKNOWN } else { NO_STATE };
+        return UNKNOWN;
     };
-    call_left(state, port, port.direct(kind.command(a, b)))
+    let value = tested.call(kind.command(a, b));
+    call_left(state, tested.sci, value)
 }
 
 // C is told the pins as one number.
@@ -546,7 +594,7 @@ fn pins_number(pins: Pins) -> u64
 pub fn sci3_pins(state: &[u64]) -> u64
     ensures { result ≡ pins_answer state.now }
 {
-    decode(state).map_or(NO_STATE, |port| pins_number(Pins::from(port)))
+    decode(state).map_or(NO_STATE, |sci| pins_number(Pins::from(sci.port)))
 }
 
 // Whether the port in the array requests an interrupt.
@@ -554,10 +602,10 @@ pub fn sci3_pins(state: &[u64]) -> u64
 pub fn sci3_interrupt(state: &[u64]) -> u64
     ensures { result ≡ interrupt_answer state.now }
 {
-    decode(state).map_or(NO_STATE, |port| u64::from(pins::interrupt(port)))
+    decode(state).map_or(NO_STATE, |sci| u64::from(pins::interrupt(sci.port)))
 }
 
-// Puts the port that every run begins with into the array.
+// Puts the state that every run begins with into the array.
 #[tactic(auto, unfolding(crate::specs::Exports::fresh_state))]
 pub fn sci3_fresh(state: &mut [u64]) -> u64
     ensures { lent result state.new ≡ fresh_state state.old }
@@ -565,38 +613,38 @@ pub fn sci3_fresh(state: &mut [u64]) -> u64
     if state.len() != STATE {
         return NO_STATE;
     }
-    store(state, Port::default());
+    store(state, Sci::default());
     0
 }
 
-// The array after a run; where the port failed the field test it is as it was.
-fn put_state(s: &mut [u64], end: Result<(), Refused>, port: Port)
-    requires { length s.old ≡ length port_max }
-    ensures { s.new ≡ cond (eqb (end_number end) 8) s.old (encode port) }
+// The array after a run; where the state failed the field test it is as it was.
+fn put_state(s: &mut [u64], end: Result<(), Refused>, sci: Sci)
+    requires { length s.old ≡ length state_max }
+    ensures { s.new ≡ cond (eqb (end_number end) 8) s.old (encode sci) }
 {
     if !matches!(
         end,
         Err(Refused {
-            reason: Reason::Call(Refusal::State),
+            reason: Reason::Call(Refusal::OfPort(port::Refusal::State)),
             ..
         })
     ) {
-        store(s, port);
+        store(s, sci);
     }
 }
 
-// Plays a script on the port in the array. The answer is document 01's number, 0 where the script was accepted; told are the offset of the refused
+// Plays a script on the state in the array. The answer is document 01's number, 0 where the script was accepted; told are the offset of the refused
 // command's first byte, else 0, how many bytes of the log are written, and the run's length.
 #[tactic(auto, unfolding(crate::specs::Exports::played))]
 pub fn sci3_play(state: &mut [u64], script: &[u8], log: &mut [u8], told: &mut [u64; 3]) -> u64
     ensures { playing result told.new state.new log.new ≡ played state.old script.now log.old }
 {
-    let Some(port) = decode(state) else {
+    let Some(sci) = decode(state) else {
         *told = [0, 0, 0];
-        return Refusal::State as u64;
+        return port::Refusal::State as u64;
     };
-    let run = player::play(port, script, log);
-    put_state(state, run.end, run.port);
+    let run = player::play(sci, script, log);
+    put_state(state, run.end, run.sci);
     *told = [
         player::end_offset(run.end) as u64,
         run.used as u64,

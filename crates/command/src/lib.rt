@@ -1,13 +1,13 @@
-// The commands of a script (document 01, "A script comes in"): what each does, its kind and that kind's number, and the table of kinds with the range of
-// each operand. Port, script, player and the exported calls share it.
+// The commands of a script (document 01, "A script comes in", and document 02, "Two"): what each does, its kind and that kind's number, and the table of
+// kinds with the range of each operand. Port, its clock, script, player and the exported calls share it.
 #![tactic(auto)]
 
 ghost use Rattle.std.specs.Prelude.{◌≡◌, Some};
-ghost use Rattle.command.specs.Command.{Decodes, code, kind, operands_of, command_of};
+ghost use Rattle.command.specs.Command.{Decodes, code, kind, operands_of, call_of, command_of};
 
-// A command: kinds 1 to 7 with their operands.
+// A direct call of the port: kinds 1 to 7 with their operands.
 #[derive(Clone, Copy, Debug, PartialEq, Eq)]
-pub enum Command {
+pub enum Call {
     // Reads a register.
     Read { address: u32 },
     // Writes a register.
@@ -24,18 +24,50 @@ pub enum Command {
     Inside,
 }
 
+// A clock whose cycles a script lets pass.
+#[derive(Clone, Copy, Debug, PartialEq, Eq)]
+pub enum Source {
+    System,
+    Watch,
+}
+
+// A command: a call of the port, or cycles of a clock, kind 8 of the system clock and kind 9 of the watch clock.
+#[derive(Clone, Copy, Debug, PartialEq, Eq)]
+pub enum Command {
+    OnPort { call: Call },
+    Cycles { source: Source, cycles: u32 },
+}
+
+impl Call {
+    pub fn kind(self) -> Kind
+        ensures { code result ≡ kind (Command.OnPort self) }
+    {
+        match self {
+            Call::Read { .. } => Kind::Read,
+            Call::Write { .. } => Kind::Write,
+            Call::Wait { .. } => Kind::Wait,
+            Call::Line { .. } => Kind::Line,
+            Call::Pins { .. } => Kind::Pins,
+            Call::Power { .. } => Kind::Power,
+            Call::Inside => Kind::Inside,
+        }
+    }
+}
+
 impl Command {
     pub fn kind(self) -> Kind
         ensures { code result ≡ kind self }
     {
         match self {
-            Command::Read { .. } => Kind::Read,
-            Command::Write { .. } => Kind::Write,
-            Command::Wait { .. } => Kind::Wait,
-            Command::Line { .. } => Kind::Line,
-            Command::Pins { .. } => Kind::Pins,
-            Command::Power { .. } => Kind::Power,
-            Command::Inside => Kind::Inside,
+            Command::OnPort { call } => call.kind(),
+            Command::Cycles {
+                source: Source::System,
+                ..
+            } => Kind::System,
+            Command::Cycles {
+                source: Source::Watch,
+                ..
+            } => Kind::Watch,
         }
     }
 }
@@ -50,6 +82,8 @@ pub enum Kind {
     Pins = 5,
     Power = 6,
     Inside = 7,
+    System = 8,
+    Watch = 9,
 }
 
 // A number that is no kind's.
@@ -70,6 +104,8 @@ impl TryFrom<u32> for Kind {
             5 => Ok(Kind::Pins),
             6 => Ok(Kind::Power),
             7 => Ok(Kind::Inside),
+            8 => Ok(Kind::System),
+            9 => Ok(Kind::Watch),
             _ => Err(UnknownKind(number)),
         }
     }
@@ -104,6 +140,8 @@ impl Kind {
             Kind::Pins => Operands::Two(1, 1),
             Kind::Power => Operands::One(15),
             Kind::Inside => Operands::None,
+            Kind::System => Operands::One(65535),
+            Kind::Watch => Operands::One(65535),
         }
     }
 
@@ -111,27 +149,40 @@ impl Kind {
     pub fn command(self, a: u32, b: u32) -> Command
         ensures { result ≡ command_of (code self) a b }
     {
-        match self {
-            Kind::Read => Command::Read { address: a },
-            Kind::Write => Command::Write {
+        let call = match self {
+            Kind::Read => Call::Read { address: a },
+            Kind::Write => Call::Write {
                 address: a,
                 value: b,
             },
-            Kind::Wait => Command::Wait { halves: a },
-            Kind::Line => Command::Line { line: a },
-            Kind::Pins => Command::Pins { clock: a, line: b },
-            Kind::Power => Command::Power { bits: a },
-            Kind::Inside => Command::Inside,
-        }
+            Kind::Wait => Call::Wait { halves: a },
+            Kind::Line => Call::Line { line: a },
+            Kind::Pins => Call::Pins { clock: a, line: b },
+            Kind::Power => Call::Power { bits: a },
+            Kind::Inside => Call::Inside,
+            Kind::System => {
+                return Command::Cycles {
+                    source: Source::System,
+                    cycles: a,
+                };
+            }
+            Kind::Watch => {
+                return Command::Cycles {
+                    source: Source::Watch,
+                    cycles: a,
+                };
+            }
+        };
+        Command::OnPort { call }
     }
 }
 
-// The command of a kind's number, from its operands. It is public and takes any number: one that is no kind's is taken as the last.
+// The command of a kind's number, from its operands. It is public and takes any number: one that is no kind's is taken as kind 7.
 pub fn command_of(kind: u32, a: u32, b: u32) -> Command
     ensures { result ≡ command_of kind a b }
 {
     match Kind::try_from(kind) {
         Ok(kind) => kind.command(a, b),
-        Err(_) => Command::Inside,
+        Err(_) => Command::OnPort { call: Call::Inside },
     }
 }

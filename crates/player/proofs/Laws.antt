@@ -14,15 +14,10 @@ use Rattle.command.specs.declared.Command.{Command}
 use Rattle.command.specs.Command.{kind}
 use Rattle.port.specs.declared.Port.{Port}
 use Rattle.pins.specs.declared.Pins.{Pins}
-use Rattle.port.specs.declared.Refusal.{Refusal}
-use Rattle.port.specs.declared.Called.{Called}
-use Rattle.port.specs.Calls.{Answer, done, refused, called, direct, number, answer}
-use Rattle.port.specs.Valid.{valid}
+use Rattle.sci.specs.declared.Sci.{Sci}
+use Rattle.sci.specs.Calls.{Answer, done, refused, valid, called, direct, edges}
 use Rattle.pins.specs.Pins.{pins, level_number, interrupt}
-use Rattle.port_laws.specs.Laws.{AcceptedPasses}
-use Rattle.port_laws.specs.Edges.{edges}
-use Rattle.port_laws.proofs.Laws.{accepted_passes, refused_not_0}
-use Rattle.port_laws.proofs.Edges.{edges_by_half_count}
+use Rattle.sci.proofs.Laws.{refused_not_0, edges_by_half_count}
 use Rattle.script.specs.declared.Fault.{Fault}
 use Rattle.std.specs.Prelude.{OnErr}
 use Rattle.std.proofs.Common.{Result, Ok, Err}
@@ -50,30 +45,25 @@ abbrev Fills : Act Progress → Type 0
 Fills (acts bs q) = length bs ≡ record_length
 Fills (refuses n) = n ≡ 0 → ⊥
 
-fills_of : (c : Command) (p : Progress) (a : Answer) → direct c p.port ≡ a → Fills (act_of c p a)
+fills_of : (c : Command) (p : Progress) (a : Answer) → direct c p.sci ≡ a → Fills (act_of c p a)
 fills_of c p (done v q) e = refl
-fills_of c p (refused n offset q) e = refused_not_0 c p.port q n offset e
+fills_of c p (refused n offset q) e = refused_not_0 c p.sci q n offset e
 
 pub sound : Sound room act
 sound = record {
   some = λ c. omega arith;
-  fills = λ c p q bs e. subst Fills e (fills_of c p (direct c p.port) refl);
-  refusals = λ c p n e. subst Fills e (fills_of c p (direct c p.port) refl);
+  fills = λ c p q bs e. subst Fills e (fills_of c p (direct c p.sci) refl);
+  refusals = λ c p n e. subst Fills e (fills_of c p (direct c p.sci) refl);
 }
 
--- a port that passes the field test is called at once
-pub passed : (c : Command) (p : Port) → valid p ≡ true → direct c p ≡ called c p
+-- a state that passes the field test is called at once
+pub passed : (c : Command) (p : Sci) → valid p ≡ true → direct c p ≡ called c p
 unfolding direct
 passed c p h = cond_true (valid p) _ _ h
 
--- the port after a command that was played passes the field test
-pub step_passes : (c : Command) (p : Port) (r : Called) → valid p ≡ true → answer p (Ok r) ≡ called c p → valid r.port ≡ true
-unfolding AcceptedPasses
-step_passes c p r t e = accepted_passes c p r.port r.value (passed c p t ∙ sym e)
-
--- and the edges that it counted are what the half count grew by
-pub step_edges : (c : Command) (p : Port) (r : Called) → valid p ≡ true → answer p (Ok r) ≡ called c p → r.port.half - p.half ≡ edges c p
-step_edges c p r t e = sym (edges_by_half_count c p r.port r.value (passed c p t ∙ sym e))
+-- the edges that a command counted are what the half count grew by
+pub step_edges : (c : Command) (p q : Sci) (v : ℕ) → valid p ≡ true → done v q ≡ called c p → q.port.half - p.port.half ≡ edges c p
+step_edges c p q v t e = sym (edges_by_half_count c p q v (passed c p t ∙ sym e))
 
 module _ (p : Progress) (s : List ℕ) (at : ℕ) (log : List ℕ) where
   full : (d : Reads Command) → length log < record_length → stopped 9 log ≡ met room act p log (reading record_length d)
@@ -88,18 +78,18 @@ module _ (p : Progress) (s : List ℕ) (at : ℕ) (log : List ℕ) where
   unfolding port_step step
   step_fault f h d = rw (d, le-ltb (length log) record_length h)
 
-  pub step_refused : (c : Command) (next : ℕ) (r : Refusal) → valid p.port ≡ true → record_length ≤ length log →
-      command_at s at ≡ finds c next → answer p.port (Err r) ≡ called c p.port → stopped (number r) log ≡ port_step p s at log
+  pub step_refused : (c : Command) (next n : ℕ) (q : Sci) → valid p.sci ≡ true → record_length ≤ length log →
+      command_at s at ≡ finds c next → refused n 0 q ≡ called c p.sci → stopped n log ≡ port_step p s at log
   unfolding port_step step
-  step_refused c next r v h d e = rw (d, le-ltb (length log) record_length h, passed c p.port v, ← e)
+  step_refused c next n q v h d e = rw (d, le-ltb (length log) record_length h, passed c p.sci v, ← e)
 
-  pub step_onward : (c : Command) (next n : ℕ) (r : Called) (after : List ℕ) → valid p.port ≡ true → record_length ≤ length log →
-      command_at s at ≡ finds c next → answer p.port (Ok r) ≡ called c p.port → n ≡ longer p.length (r.port.half - p.port.half) →
-      after ≡ record_of c r.value r.port ++ drop record_length log →
-      onward (record { port = r.port; length = n }) next record_length after ≡ port_step p s at log
+  pub step_onward : (c : Command) (next n v : ℕ) (q : Sci) (after : List ℕ) → valid p.sci ≡ true → record_length ≤ length log →
+      command_at s at ≡ finds c next → done v q ≡ called c p.sci → n ≡ longer p.length (q.port.half - p.sci.port.half) →
+      after ≡ record_of c v q.port ++ drop record_length log →
+      onward (record { sci = q; length = n }) next record_length after ≡ port_step p s at log
   unfolding port_step step
-  step_onward c next n r after t h d e l w =
-      rw (d, le-ltb (length log) record_length h, passed c p.port t, ← e, w, l, step_edges c p.port r t e)
+  step_onward c next n v q after t h d e l w =
+      rw (d, le-ltb (length log) record_length h, passed c p.sci t, ← e, w, l, step_edges c p.sci q v t e)
 
 -- ---- a turn of the loop
 
@@ -123,25 +113,25 @@ module _ (run : Run Progress) (p : Progress) (used : ℕ) (s : List ℕ) (at : �
       (ap (λ (t : Result ℕ Reason). stepped t q ys) e)
 
   pub port_stands : {reason : Reason} → st ≡ Err reason → OnErr st (q ≡ p) →
-      ran (record { port = q.port; length = q.length; end = Err (record { reason = reason; offset = at }); used = used }) (put_mid used (length log - used) log ys) ≡ run
+      ran (record { sci = q.sci; length = q.length; end = Err (record { reason = reason; offset = at }); used = used }) (put_mid used (length log - used) log ys) ≡ run
   unfolding port_step
   port_stands {reason} e as_it_was =
       let same : q ≡ p = subst (λ (t : Result ℕ Reason). OnErr t (q ≡ p)) e as_it_was in
-      subst⁻¹ (λ (x : Progress). ran (record { port = x.port; length = x.length; end = Err (record { reason = reason; offset = at }); used = used }) (put_mid used (length log - used) log ys) ≡ run) same
+      subst⁻¹ (λ (x : Progress). ran (record { sci = x.sci; length = x.length; end = Err (record { reason = reason; offset = at }); used = used }) (put_mid used (length log - used) log ys) ≡ run) same
       (stands room act sound (read_at record_length s) (length s) (command_moves record_length s) run p used at log ys (stepped st q ys) inside here so_far turn kept
       (ap (λ (t : Result ℕ Reason). stepped t q ys) e))
 
 pub port_finishes : (run : Run Progress) (p : Progress) (used : ℕ) (s : List ℕ) (at : ℕ) (log : List ℕ) → used ≤ length log → length s ≤ at →
-    run ≡ recorded (take used log) (from_at p s at (drop used log)) → ran (record { port = p.port; length = p.length; end = Ok tt; used = used }) log ≡ run
+    run ≡ recorded (take used log) (from_at p s at (drop used log)) → ran (record { sci = p.sci; length = p.length; end = Ok tt; used = used }) log ≡ run
 port_finishes run p used s at log inside h so_far =
     finishes room act sound (read_at record_length s) (length s) (command_moves record_length s) run p used at log inside h so_far
 
 -- ---- the whole run
 
-pub play_tested : (p : Port) (s log : List ℕ) (b : Bool) (z : Run Progress) → b ≡ valid p → b ≡ true → z ≡ play_on p s log → z ≡ play p s log
+pub play_tested : (p : Sci) (s log : List ℕ) (b : Bool) (z : Run Progress) → b ≡ valid p → b ≡ true → z ≡ play_on p s log → z ≡ play p s log
 unfolding play
 play_tested p s log b z e t h = h ∙ sym (rw (← e, t))
 
-pub play_refused : (p : Port) (s log : List ℕ) (b : Bool) → b ≡ valid p → b ≡ false → ended 8 0 (started p) log ≡ play p s log
+pub play_refused : (p : Sci) (s log : List ℕ) (b : Bool) → b ≡ valid p → b ≡ false → ended 8 0 (started p) log ≡ play p s log
 unfolding play
 play_refused p s log b e t = sym (rw (← e, t))

@@ -1,15 +1,14 @@
--- Document 01, "A script comes in": what playing a script on a port leaves. What playing is, is said once for all players (machine's Machine.antt): here is
--- what is this player's own, the record of a command, and the direct call (port's Calls.antt) that it makes.
+-- Document 01, "A script comes in": what playing a script on a port with its clock leaves. What playing is, is said once for all players (machine's
+-- Machine.antt): here is what is this player's own, the record of a command, and the direct call (sci's Calls.antt) that it makes.
 -- Assumes nothing.
 use Rattle.std.specs.Prelude.{ℕ, ◌+◌, ◌%◌, ◌^◌, cond, List, [], ◌∷◌, Result, Ok, Err}
 use Rattle.frame.specs.Frame.{one_if}
 use Rattle.command.specs.declared.Command.{Command}
 use Rattle.command.specs.Command.{kind}
 use Rattle.port.specs.declared.Port.{Port}
-use Rattle.port.specs.Calls.{Answer, done, refused, direct, number}
-use Rattle.port_laws.specs.Edges.{edges}
 use Rattle.pins.specs.Pins.{transmit_level, level_number, interrupt}
-use Rattle.port.specs.Valid.{valid}
+use Rattle.sci.specs.declared.Sci.{Sci}
+use Rattle.sci.specs.Calls.{Answer, done, refused, valid, direct, edges, number}
 use Rattle.script.specs.Number.{fault_number}
 use Rattle.script.specs.Items.{script_items}
 use Rattle.machine.specs.Machine.{Item, Act, acts, refuses, Run, ended, play_items}
@@ -33,29 +32,29 @@ room c = record_length
 abbrev pub items : List ℕ → List (Item Command)
 items s = script_items record_length s 0
 
--- what a run carries from command to command: the port, and its length so far, "the number of edges counted over the whole script, across resets, in 64
--- bits that wrap to zero". It is the run's own: it begins with 0 whatever the port's half count is
+-- what a run carries from command to command: the state, and its length so far, "the number of edges counted over the whole script, across resets, in 64
+-- bits that wrap to zero". It is the run's own: it begins with 0 whatever the half count is
 pub record Progress : Type 0 where
-  pub port : Port
+  pub sci : Sci
   pub length : ℕ
 
-abbrev pub started : Port → Progress
-started p = record { port = p; length = 0 }
+abbrev pub started : Sci → Progress
+started s = record { sci = s; length = 0 }
 
 abbrev pub longer : ℕ → ℕ → ℕ
 longer length n = (length + n) % 2 ^ 64
 
--- a command is its direct call: its record, the port after it and the edges that it counted; or the refusal
+-- a command is its direct call: its record, the state after it and the edges that it counted; or the refusal
 abbrev pub act_of : Command → Progress → Answer → Act Progress
-act_of c s (done v q) = acts (record_of c v q) (record { port = q; length = longer s.length (edges c s.port) })
-act_of c s (refused n offset q) = refuses n
+act_of c r (done v s) = acts (record_of c v s.port) (record { sci = s; length = longer r.length (edges c r.sci) })
+act_of c r (refused n offset s) = refuses n
 
 abbrev pub act : Command → Progress → Act Progress
-act c s = act_of c s (direct c s.port)
+act c r = act_of c r (direct c r.sci)
 
 -- "The player tests 8 once at entry." That no later call meets 8 is a law (script_laws' Runs.antt)
-unfoldable pub play : Port → List ℕ → List ℕ → Run Progress
-play p s log = cond (valid p) (play_items room act (started p) (items s) log) (ended 8 0 (started p) log)
+unfoldable pub play : Sci → List ℕ → List ℕ → Run Progress
+play s script log = cond (valid s) (play_items room act (started s) (items script) log) (ended 8 0 (started s) log)
 
 -- ---- the code's answer, in these terms
 abbrev pub reason_number : Reason → ℕ
@@ -72,7 +71,7 @@ end_offset (Ok accepted) = 0
 end_offset (Err at) = at.offset
 
 abbrev pub reached : Played → Progress
-reached r = record { port = r.port; length = r.length }
+reached r = record { sci = r.sci; length = r.length }
 
 abbrev pub ran : Played → List ℕ → Run Progress
 ran r log = record { state = reached r; number = end_number r.end; offset = end_offset r.end; used = r.used; log = log }

@@ -1,4 +1,4 @@
-// Plays a script on a port and leaves a record of each command in a lent log (document 01, "A script comes in").
+// Plays a script on a port with its clock and leaves a record of each command in a lent log (document 01, "A script comes in").
 #![tactic(auto)]
 
 ghost use Rattle.std.specs.Prelude.{◌≡◌, ◌++◌, ◌-◌, ◌≤◌, length, drop, OnErr};
@@ -8,7 +8,8 @@ ghost use Rattle.player.specs.Private.Step.{progress, stepped, port_step, play_o
 
 use command::Command;
 use pins::Pins;
-use port::{Port, Refusal, Tested};
+use port::Port;
+use sci::{Refusal, Sci, Tested};
 use script::{Fault, Found};
 
 // How many bytes of the log a record takes.
@@ -72,10 +73,10 @@ impl From<Reason> for u8 {
     }
 }
 
-// A run so far: the port, and how many edges its commands counted, in 64 bits that wrap to 0.
+// A run so far: the state, and how many edges its commands counted, in 64 bits that wrap to 0.
 #[derive(Clone, Copy)]
 struct Progress {
-    port: Tested,
+    tested: Tested,
     length: u64,
 }
 
@@ -88,7 +89,7 @@ fn longer(length: u64, before: u32, after: u32) -> u64
 
 // Plays the command at an offset of the script, and hands back the offset of the next. The log is its unwritten rest. A command that is not played leaves
 // the run as it was.
-#[tactic(auto, using(crate::proofs::Laws::step_full, crate::proofs::Laws::step_fault, crate::proofs::Laws::step_passes))]
+#[tactic(auto, using(crate::proofs::Laws::step_full, crate::proofs::Laws::step_fault))]
 fn step(run: &mut Progress, script: &[u8], at: usize, log: &mut [u8]) -> Result<usize, Reason>
     ensures turn { stepped result (progress run.new) log.new ≡ port_step (progress run.old) script.now at log.old }
     ensures kept { OnErr result (progress run.new ≡ progress run.old) }
@@ -100,10 +101,10 @@ fn step(run: &mut Progress, script: &[u8], at: usize, log: &mut [u8]) -> Result<
         value: command,
         next,
     } = script::read_command(script, at)?;
-    let called = run.port.called(command)?;
-    write_record(log, command, called.value, called.port);
-    run.length = longer(run.length, run.port.port.half, called.port.half);
-    run.port.port = called.port;
+    let before = run.tested.sci.port.half;
+    let value = run.tested.call(command)?;
+    write_record(log, command, value, run.tested.sci.port);
+    run.length = longer(run.length, before, run.tested.sci.port.half);
     Ok(next)
 }
 
@@ -114,12 +115,12 @@ pub struct Refused {
     pub offset: usize,
 }
 
-// What playing hands back: the last port (at a refusal, as before the refused command), the edges counted over the whole script, whether it was accepted, and
+// What playing hands back: the last state (at a refusal, as before the refused command), the edges counted over the whole script, whether it was accepted, and
 // how many bytes of the log are written. The log is lent by C, which is told that number. It is only copied: another derive would read the port's 28 fields,
 // and nothing compares or prints one.
 #[derive(Clone, Copy)]
 pub struct Played {
-    pub port: Port,
+    pub sci: Sci,
     pub length: u64,
     pub end: Result<(), Refused>,
     pub used: usize,
@@ -147,10 +148,10 @@ pub fn end_offset(end: Result<(), Refused>) -> usize
 
 // Plays the script from its first byte.
 #[tactic(auto, using(crate::proofs::Laws::port_stands, crate::proofs::Laws::port_finishes))]
-fn play_on(port: Tested, script: &[u8], log: &mut [u8]) -> Played
-    ensures { ran result log.new ≡ play_on port.port script.now log.old }
+fn play_on(tested: Tested, script: &[u8], log: &mut [u8]) -> Played
+    ensures { ran result log.new ≡ play_on tested.sci script.now log.old }
 {
-    let mut run = Progress { port, length: 0 };
+    let mut run = Progress { tested, length: 0 };
     let mut at: usize = 0;
     let mut used: usize = 0;
     // No `for`: how far a turn moves on only the command that it reads tells.
@@ -158,7 +159,7 @@ fn play_on(port: Tested, script: &[u8], log: &mut [u8]) -> Played
         match step(&mut run, script, at, &mut log[used..]) {
             Err(reason) => {
                 return Played {
-                    port: run.port.port,
+                    sci: run.tested.sci,
                     length: run.length,
                     end: Err(Refused { reason, offset: at }),
                     used,
@@ -171,27 +172,27 @@ fn play_on(port: Tested, script: &[u8], log: &mut [u8]) -> Played
         }
     }
     Played {
-        port: run.port.port,
+        sci: run.tested.sci,
         length: run.length,
         end: Ok(()),
         used,
     }
 }
 
-// Plays a script on a port: one record in the log for each command played.
+// Plays a script: one record in the log for each command played.
 #[tactic(auto, using(crate::proofs::Laws::play_tested, crate::proofs::Laws::play_refused))]
-pub fn play(port: Port, script: &[u8], log: &mut [u8]) -> Played
-    ensures { ran result log.new ≡ play port script.now log.old }
+pub fn play(sci: Sci, script: &[u8], log: &mut [u8]) -> Played
+    ensures { ran result log.new ≡ play sci script.now log.old }
 {
     // Not by `Tested::try_from`: its `Result` takes the port's first bytes apart, at fourteen instructions more for each command.
-    if port.valid() {
-        return play_on(Tested { port }, script, log);
+    if sci.valid() {
+        return play_on(Tested { sci }, script, log);
     }
     Played {
-        port,
+        sci,
         length: 0,
         end: Err(Refused {
-            reason: Reason::Call(Refusal::State),
+            reason: Reason::Call(Refusal::OfPort(port::Refusal::State)),
             offset: 0,
         }),
         used: 0,

@@ -1,8 +1,9 @@
 -- The direct calls of kinds 1 to 7 (document 01, "A script comes in"), with the refusals 8, 2, 1, 3, 4 in that order.
 -- Assumes nothing.
 use Rattle.std.specs.Prelude.{Result, Ok, Err, ℕ, ◌+◌, Bool, cond, not, ◌&&◌, List, [], ◌∷◌, ◌==◌, nat_le}
-use Rattle.command.specs.declared.Command.{Command}
-use Rattle.command.specs.declared.Command.TheVariants.{Read, Write, Wait, Line, Pins, Power, Inside}
+use Rattle.command.specs.declared.Call.{Call}
+use Rattle.command.specs.declared.Command.TheVariants.{OnPort}
+use Rattle.command.specs.declared.Call.TheVariants.{Read, Write, Wait, Line, Pins, Power, Inside}
 use Rattle.command.specs.Command.{in_range}
 use Rattle.frame.specs.Frame.{has}
 use Rattle.port.specs.declared.Port.{Port}
@@ -35,7 +36,7 @@ abbrev pub bit : ℕ → Bool
 bit n = not (n == 0)
 
 -- the tests 1, 3 and 4, and the call, for operands in range; the greatest half count is an argument
-abbrev pub ranged : ℕ → Command → Port → Answer
+abbrev pub ranged : ℕ → Call → Port → Answer
 ranged most (Read a) p = cond (handles a) (done (peek p a) (read a p)) (refuse 1 p)
 ranged most (Write a v) p = cond (handles a) (cond (a == 0xffa7 && nat_le 128 v) (refuse 3 p) (done 0 (write a v p))) (refuse 1 p)
 ranged most (Wait n) p =
@@ -48,18 +49,18 @@ ranged most (Power b) p = done 0 (set_power (has b 1) (has b 2) (has b 4) (has b
 ranged most Inside p = done 0 (inside p)
 
 -- test 2 first, by the table of kinds
-abbrev pub called_within : ℕ → Command → Port → Answer
-called_within most c p = cond (in_range c) (ranged most c p) (refuse 2 p)
+abbrev pub called_within : ℕ → Call → Port → Answer
+called_within most c p = cond (in_range (OnPort c)) (ranged most c p) (refuse 2 p)
 
-unfoldable pub called : Command → Port → Answer
+unfoldable pub called : Call → Port → Answer
 called c p = called_within limit c p
 
 -- a direct call: test 8 first
-unfoldable pub direct : Command → Port → Answer
+unfoldable pub direct : Call → Port → Answer
 direct c p = cond (valid p) (called c p) (refuse 8 p)
 
 -- the port after a list of direct calls: each gets the port that the one before left
-unfoldable pub run : Port → List Command → Port
+unfoldable pub run : Port → List Call → Port
 run p [] = p
 run p (c ∷ cs) = run (after (direct c p)) cs
 

@@ -14,36 +14,36 @@ use Rattle.port.specs.Power.{fresh, reset_registers, reset, set_power}
 use Rattle.port.specs.Input.{receive_input, external_edge, input_pins}
 use Rattle.shift.specs.Valid.{character_valid, word_in_place}
 use Rattle.port.specs.Valid.{registers_valid, valid}
-use Rattle.command.specs.declared.Command.{Command}
-use Rattle.command.specs.declared.Command.TheVariants.{Write, Wait, Line, Power}
+use Rattle.command.specs.declared.Call.{Call}
+use Rattle.command.specs.declared.Call.TheVariants.{Write, Wait, Line, Power}
 use Rattle.port.specs.Calls.{Answer, called, direct, run}
 
 -- ---- how they are computed
 -- a direct call with every definition under it open
-unfoldable pub computed : Command → Port → Answer
+unfoldable pub computed : Call → Port → Answer
 unfolding direct called valid registers_valid character_valid word_in_place format_valid word_valid fresh reset_registers reset set_power receive_input external_edge input_pins peek read write_scr write_tdr status_with status_write stored connect load_tail after_store write process_basic sync clocked_edge advance half_step halves refresh_sync_clock take_bit receive_bit tail_ends bit_out shift_out sync_edge loaded preloaded begin start_at try_start next_cell advance_tx sample_at arm_receive complete_receive advance_rx bits number odd_ones format parity_cell frame word
 computed c p = direct c p
 
-unfoldable pub after_calls : List Command → Port
+unfoldable pub after_calls : List Call → Port
 unfolding computed run fresh
 after_calls cs = run fresh cs
 
 -- ---- words received
 -- the line at mark, or not, with SPCR bit 0 as given
-abbrev pub line : ℕ → Bool → Command
+abbrev pub line : ℕ → Bool → Call
 line spcr high = Line (one_if (differ high (has spcr 1)))
 
 -- a port that receives with these SMR, SEMR and SPCR, its line at mark
-abbrev pub receiving : ℕ → ℕ → ℕ → List Command
+abbrev pub receiving : ℕ → ℕ → ℕ → List Call
 receiving smr semr spcr =
     line spcr true ∷ Power 3 ∷ Write 0xff91 spcr ∷ Write 0xff98 smr ∷ Write 0xffa6 semr ∷ Write 0xff9a 0x10 ∷ []
 
 -- a word's cells on the line, low bit first, each for one cell length
-unfoldable pub cells_on_line : ℕ → ℕ → ℕ → ℕ → List Command
+unfoldable pub cells_on_line : ℕ → ℕ → ℕ → ℕ → List Call
 cells_on_line spcr cell zero w = []
 cells_on_line spcr cell (suc n) w = line spcr (w % 2 == 1) ∷ Wait cell ∷ cells_on_line spcr cell n (w / 2)
 
-unfoldable pub words_on_line : ℕ → ℕ → ℕ → List ℕ → List Command
+unfoldable pub words_on_line : ℕ → ℕ → ℕ → List ℕ → List Call
 unfolding cells_on_line
 words_on_line spcr cell n [] = []
 words_on_line spcr cell n (w ∷ ws) = cells_on_line spcr cell n w ++ words_on_line spcr cell n ws

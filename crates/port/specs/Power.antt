@@ -1,6 +1,6 @@
 -- Power and resets (document 01, "The nine registers"; `set_power`), and the port that every run begins with.
 -- Assumes nothing.
-use Rattle.std.specs.Prelude.{ℕ, Bool, true, false, cond, not, ◌&&◌, None}
+use Rattle.std.specs.Prelude.{ℕ, Bool, true, false, cond, not, ◌&&◌, ◌||◌, None}
 use Rattle.port.specs.declared.Port.{Port}
 use Rattle.shift.specs.declared.Tx.TheVariants.{Off}
 use Rattle.port.specs.Fields.{with_spcr, with_module, with_main, with_sub, with_reset_mode, with_input, with_input_clock, with_transmitted, with_received}
@@ -48,7 +48,11 @@ carried spcr old p =
 unfoldable pub reset_registers : ℕ → Port → Port
 reset_registers spcr p = carried spcr p fresh
 
--- it comes when the module goes off, or reset mode on, which keeps SPCR; both in one command count as the module's
+-- it comes when the module goes off, or reset mode on
+abbrev pub resets : Bool → Bool → Port → Bool
+resets module_on reset_on p = (not module_on && p.«module») || (reset_on && not p.reset_mode)
+
+-- the second keeps SPCR; both in one command count as the module's
 unfoldable pub reset : Bool → Bool → Port → Port
 reset module_on reset_on p =
     cond (not module_on && p.«module») (reset_registers 0xc0 p)

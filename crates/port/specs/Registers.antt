@@ -128,6 +128,8 @@ unfoldable pub after_store : Port → Port
 after_store p = refresh_sync_clock (arm_receive (try_start (load_tail p)))
 
 -- with module off or in reset mode a write does nothing
+abbrev pub takes_writes : Port → Bool
+takes_writes p = p.«module» && not p.reset_mode
+
 unfoldable pub write : ℕ → ℕ → Port → Port
-write a v p =
-    cond (p.«module» && not p.reset_mode) (after_store (connect (external p) (stored a v p))) p
+write a v p = cond (takes_writes p) (after_store (connect (external p) (stored a v p))) p

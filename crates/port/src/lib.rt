@@ -4,7 +4,8 @@
 ghost use Rattle.std.specs.Prelude.{◌≡◌, ◌+◌, ◌<◌, ◌≤◌, true, false, if◌then◌else◌, bit_or, Some, Ok};
 ghost use Rattle.shift.specs.declared.Tx.TheVariants.{Off};
 ghost use Rattle.port.specs.Fields.{with_rx, with_input_clock};
-ghost use Rattle.port.specs.Baud.{format_of, external, running, edge_counts, next_fall, boundary};
+ghost use Rattle.port.specs.Baud.{format_of, external, running, internal, edge_counts, next_fall, boundary};
+ghost use Rattle.frame.specs.Frame.{has};
 ghost use Rattle.shift.specs.Receiver.{armed, started, bit_at, stepped, sample, bit_taken, rx_next};
 ghost use Rattle.port.specs.Receiver.{input_level, arm_receive, complete_receive, after_sample, advance_rx};
 ghost use Rattle.shift.specs.Sender.{level};
@@ -12,15 +13,15 @@ ghost use Rattle.port.specs.Sender.{character, loaded, preloaded, drive, begin, 
 ghost use Rattle.port.specs.Clocked.{sync_needed, refresh_sync_clock, take_bit, receive_bit, tail_ends, bit_out, shift_out, sync_edge};
 ghost use Rattle.port.specs.Half.{process_basic, halves, uncounted};
 ghost use Rattle.port.specs.Private.Skip.{arms_on, nothing_due, toggled, edge_of, edge_work, clock_fresh, deadline, counted_by, ClockGives, edges};
-ghost use Rattle.port.specs.Registers.{address, peek, read, sender_off, scr_tx, write_scr, write_tdr, status_write, stored, connect, load_tail, after_store, write};
-ghost use Rattle.port.specs.Power.{fresh, reset_registers, reset, set_power};
+ghost use Rattle.port.specs.Registers.{address, peek, read, sender_off, scr_tx, write_scr, write_tdr, status_write, stored, connect, load_tail, after_store, takes_writes, write};
+ghost use Rattle.port.specs.Power.{fresh, reset_registers, resets, reset, set_power};
 ghost use Rattle.port.specs.Input.{receive_input, external_edge};
 ghost use Rattle.port.specs.Valid.{limit, registers_valid, valid};
 ghost use Rattle.port.specs.Calls.{done, called, direct, number, answer};
 ghost use Rattle.shift.specs.Private.Ready.{Bounded, Placed, Shiftable, PlacedIn, LoadedBounded, Sendable, in_data, at_parity};
 ghost use Rattle.port.specs.Private.Ready.{Ready};
 
-use command::Command;
+use command::Call;
 use frame::Format;
 use register::Register;
 use shift::{Character, Rx, Sampled, Tx, due_valid, rx_next, rx_synchronous, rx_valid, within};
@@ -1126,6 +1127,32 @@ impl Port {
     }
 }
 
+// ---- what the clock above the port asks it
+impl Port {
+    // Halves pass: it runs on its internal clock.
+    pub fn internal(self) -> bool
+        ensures { result ≡ internal self }
+    {
+        let running = self.running();
+        let external = self.external();
+        running & !external
+    }
+
+    // Whether a write stores anything.
+    pub fn takes_writes(self) -> bool
+        ensures { result ≡ takes_writes self }
+    {
+        self.module & !self.reset_mode
+    }
+
+    // Whether power with these bits brings a reset.
+    pub fn resets(self, bits: u32) -> bool
+        ensures { result ≡ resets (has bits 1) (has bits 8) self }
+    {
+        ((bits & 1 == 0) & self.module) | ((bits & 8 != 0) & !self.reset_mode)
+    }
+}
+
 // ---- direct calls
 impl From<Refusal> for u8 {
     ghost from_gives = { λ refusal n. n ≡ number refusal };
@@ -1142,11 +1169,11 @@ impl Port {
         Called { value, port: self }
     }
 
-    // The direct call of a command, for any port.
+    // The direct direct call, for any port.
     #[tactic(auto, unfolding(crate::specs::Calls::direct))]
-    pub fn direct(self, command: Command) -> Result<Called, Refusal>
-        ensures { answer self result ≡ direct command self }
+    pub fn direct(self, call: Call) -> Result<Called, Refusal>
+        ensures { answer self result ≡ direct call self }
     {
-        Tested::try_from(self)?.called(command)
+        Tested::try_from(self)?.called(call)
     }
 }

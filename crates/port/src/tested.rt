@@ -6,7 +6,7 @@ ghost use Rattle.port.specs.Valid.{valid};
 
 use super::register::Register;
 use super::{Called, LIMIT, Port, Refusal};
-use command::Command;
+use command::Call;
 
 // Whoever makes many calls on one port tests it once: every accepted call keeps the test.
 #[derive(Clone, Copy)]
@@ -39,7 +39,7 @@ impl Tested {
 
     #[tactic(auto, unfolding(crate::specs::Calls::called))]
     fn read(self, a: u32) -> Result<Called, Refusal>
-        ensures { answer self.port result ≡ called (Command.Read a) self.port }
+        ensures { answer self.port result ≡ called (Call.Read a) self.port }
     {
         if a > 65535 {
             return Err(Refusal::Operand);
@@ -55,7 +55,7 @@ impl Tested {
     // Address and value are the command's two numbers; the address is a register's at once, so they have no struct.
     #[tactic(auto, using(crate::proofs::Checked::valid_ready), unfolding(crate::specs::Calls::called))]
     fn write(self, a: u32, v: u32) -> Result<Called, Refusal>
-        ensures { answer self.port result ≡ called (Command.Write a v) self.port }
+        ensures { answer self.port result ≡ called (Call.Write a v) self.port }
     {
         if (a > 65535) | (v > 255) {
             return Err(Refusal::Operand);
@@ -69,7 +69,7 @@ impl Tested {
 
     #[tactic(auto, using(crate::proofs::Checked::valid_ready, crate::proofs::CallLaws::not_external, crate::proofs::CallLaws::sum_fits), unfolding(crate::specs::Calls::called))]
     fn wait(self, n: u32) -> Result<Called, Refusal>
-        ensures { answer self.port result ≡ called (Command.Wait n) self.port }
+        ensures { answer self.port result ≡ called (Call.Wait n) self.port }
     {
         if n > 65535 {
             return Err(Refusal::Operand);
@@ -86,7 +86,7 @@ impl Tested {
 
     #[tactic(auto, using(crate::proofs::CallLaws::valid_half), unfolding(crate::specs::Calls::called))]
     fn set_line(self, line: u32) -> Result<Called, Refusal>
-        ensures { answer self.port result ≡ called (Command.Line line) self.port }
+        ensures { answer self.port result ≡ called (Call.Line line) self.port }
     {
         if line > 1 {
             return Err(Refusal::Operand);
@@ -96,7 +96,7 @@ impl Tested {
 
     #[tactic(auto, using(crate::proofs::Checked::valid_ready, crate::proofs::CallLaws::edge_room), unfolding(crate::specs::Calls::called, crate::specs::Input::input_pins))]
     fn input_pins(self, clock: u32, line: u32) -> Result<Called, Refusal>
-        ensures { answer self.port result ≡ called (Command.Pins clock line) self.port }
+        ensures { answer self.port result ≡ called (Call.Pins clock line) self.port }
     {
         if (clock > 1) | (line > 1) {
             return Err(Refusal::Operand);
@@ -116,7 +116,7 @@ impl Tested {
     // Bits: 1 module, 2 main clock, 4 subclock, 8 reset mode.
     #[tactic(auto, using(crate::proofs::CallLaws::valid_half), unfolding(crate::specs::Calls::called))]
     fn set_power(self, bits: u32) -> Result<Called, Refusal>
-        ensures { answer self.port result ≡ called (Command.Power bits) self.port }
+        ensures { answer self.port result ≡ called (Call.Power bits) self.port }
     {
         if bits > 15 {
             return Err(Refusal::Operand);
@@ -127,20 +127,20 @@ impl Tested {
         Ok(port.done(0))
     }
 
-    // The call of a command. Inlined, so that a read in a script does not pay for what the other kinds need.
+    // The direct call. Inlined, so that a read in a script does not pay for what the other kinds need.
     #[inline(always)]
     #[tactic(auto, unfolding(crate::specs::Calls::called))]
-    pub fn called(self, command: Command) -> Result<Called, Refusal>
-        ensures { answer self.port result ≡ called command self.port }
+    pub fn called(self, call: Call) -> Result<Called, Refusal>
+        ensures { answer self.port result ≡ called call self.port }
     {
-        match command {
-            Command::Read { address } => self.read(address),
-            Command::Write { address, value } => self.write(address, value),
-            Command::Wait { halves } => self.wait(halves),
-            Command::Line { line } => self.set_line(line),
-            Command::Pins { clock, line } => self.input_pins(clock, line),
-            Command::Power { bits } => self.set_power(bits),
-            Command::Inside => Ok(self.port.uncounted(1).done(0)),
+        match call {
+            Call::Read { address } => self.read(address),
+            Call::Write { address, value } => self.write(address, value),
+            Call::Wait { halves } => self.wait(halves),
+            Call::Line { line } => self.set_line(line),
+            Call::Pins { clock, line } => self.input_pins(clock, line),
+            Call::Power { bits } => self.set_power(bits),
+            Call::Inside => Ok(self.port.uncounted(1).done(0)),
         }
     }
 }

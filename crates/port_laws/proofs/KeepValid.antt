@@ -23,8 +23,8 @@ use Rattle.port.specs.Power.{fresh}
 use Rattle.port.specs.Input.{receive_input, pins_change, input_pins}
 use Rattle.shift.specs.Valid.{due_at, due_either, due_by, character_valid, loaded_valid, cell_valid, tx_valid, position_valid, word_in_place, rx_valid}
 use Rattle.port.specs.Valid.{limit, registers_valid, valid}
-use Rattle.command.specs.declared.Command.{Command}
-use Rattle.command.specs.declared.Command.TheVariants.{Read, Write, Wait, Line, Pins, Power, Inside}
+use Rattle.command.specs.declared.Call.{Call}
+use Rattle.command.specs.declared.Call.TheVariants.{Read, Write, Wait, Line, Pins, Power, Inside}
 use Rattle.port.specs.Calls.{Answer, after, bit, called}
 use Rattle.frame.proofs.Laws.{without, without_test}
 use Rattle.branches.proofs.Branches.{by_cond, both_arms, or_true}
@@ -223,7 +223,7 @@ fresh_sound = sound_at 0 fresh zero-le fresh_kept
 abbrev SoundAfter : Answer → Type 0
 SoundAfter r = Sound (after r)
 
-pub call_sound : (c : Command) (p : Port) → Sound p → SoundAfter (called c p)
+pub call_sound : (c : Call) (p : Port) → Sound p → SoundAfter (called c p)
 unfolding called
 call_sound (Read a) p g =
     both_arms SoundAfter (leb a 65535) _ _ (both_arms SoundAfter (handles a) _ _ (sound_at p.half (read a p) g.low (read_kept p.half p g.kept a)) g) g

@@ -17,8 +17,8 @@ use Rattle.port.specs.Sender.{one_sent, finish_tail}
 use Rattle.port.specs.Registers.{handles}
 use Rattle.port.specs.Input.{pins_change}
 use Rattle.port.specs.Valid.{limit, valid}
-use Rattle.command.specs.declared.Command.{Command}
-use Rattle.command.specs.declared.Command.TheVariants.{Read, Write, Wait, Line, Pins, Power, Inside}
+use Rattle.command.specs.declared.Call.{Call}
+use Rattle.command.specs.declared.Call.TheVariants.{Read, Write, Wait, Line, Pins, Power, Inside}
 use Rattle.port.specs.Calls.{Answer, done, refused, after, refuse, bit, called, direct, run}
 use Rattle.port_laws.specs.Laws.{FreshPasses, KeepsFieldTest, AcceptedPasses, GrownPasses, NeverRefusedBy8, OneOf, RefusedStands, TalliesWrap, WholeWordCounts, TailEndCounts, HalfCounts, PinEdgeCounts, CallCounts, TalliesCount, receives, finishes, in_calls}
 use Rattle.branches.proofs.Branches.{by_cond, both_arms}
@@ -37,7 +37,7 @@ pub fresh_passes : FreshPasses
 unfolding FreshPasses
 fresh_passes = sound_valid fresh fresh_sound
 
-pub called_valid : (c : Command) (p : Port) → valid p ≡ true → valid (after (called c p)) ≡ true
+pub called_valid : (c : Call) (p : Port) → valid p ≡ true → valid (after (called c p)) ≡ true
 called_valid c p e = sound_valid (after (called c p)) (call_sound c p (valid_sound p e))
 
 pub keeps_field_test : KeepsFieldTest
@@ -57,11 +57,11 @@ unfolding AcceptedPasses direct
 accepted_passes c p q v r =
     subst Passes r (by_cond Passes (valid p) (called c p) (refuse 8 p) (λ e. passes (called c p) (called_valid c p e)) (λ e. tt))
 
-pub direct_valid : (c : Command) (p : Port) → valid p ≡ true → valid (after (direct c p)) ≡ true
+pub direct_valid : (c : Call) (p : Port) → valid p ≡ true → valid (after (direct c p)) ≡ true
 unfolding direct
 direct_valid c p e = both_arms (λ (r : Answer). valid (after r) ≡ true) (valid p) (called c p) (refuse 8 p) (called_valid c p e) e
 
-pub run_valid : (cs : List Command) (p : Port) → valid p ≡ true → valid (run p cs) ≡ true
+pub run_valid : (cs : List Call) (p : Port) → valid p ≡ true → valid (run p cs) ≡ true
 unfolding run
 run_valid [] p e = e
 run_valid (c ∷ cs) p e = run_valid cs (after (direct c p)) (direct_valid c p e)
@@ -96,7 +96,7 @@ module _ (p : Port) where
   by_4 : P (refuse 4 p)
   by_4 = refuses 4 (inr (inr (inr (inl refl))))
 
-  called_tested : (c : Command) → P (called c p)
+  called_tested : (c : Call) → P (called c p)
   unfolding called
   called_tested (Read a) = both_arms P (leb a 65535) _ _ (both_arms P (handles a) _ _ (accepts _ _) by_1) by_2
   called_tested (Write a v) =
@@ -123,7 +123,7 @@ widen : (p : Port) (ns : List ℕ) (n : ℕ) (r : Answer) → Tested p ns r → 
 widen p ns n r (accepts v q) = accepts v q
 widen p ns n r (refuses m o) = refuses m (inr o)
 
-direct_tested : (c : Command) (p : Port) → Tested p (8 ∷ four) (direct c p)
+direct_tested : (c : Call) (p : Port) → Tested p (8 ∷ four) (direct c p)
 unfolding direct
 direct_tested c p =
     both_arms (Tested p (8 ∷ four)) (valid p) (called c p) (refuse 8 p) (widen p four 8 (called c p) (called_tested p c)) (refuses 8 (inl refl))
@@ -133,7 +133,7 @@ unfolding RefusedStands
 refused_stands c p q n offset r = subst (Stands p (8 ∷ four)) r (stands p (8 ∷ four) (direct c p) (direct_tested c p))
 
 -- so no refusal has the number 0
-pub refused_not_0 : (c : Command) (p q : Port) (n offset : ℕ) → direct c p ≡ refused n offset q → n ≡ 0 → ⊥
+pub refused_not_0 : (c : Call) (p q : Port) (n offset : ℕ) → direct c p ≡ refused n offset q → n ≡ 0 → ⊥
 unfolding RefusedStands
 refused_not_0 c p q n offset e z = not_0 (subst (OneOf (8 ∷ 2 ∷ 1 ∷ 3 ∷ 4 ∷ [])) z (refused_stands c p q n offset e).2)
   where
@@ -146,7 +146,7 @@ refused_not_0 c p q n offset e z = not_0 (subst (OneOf (8 ∷ 2 ∷ 1 ∷ 3 ∷ 
     not_0 (inr (inr (inr (inr (inr e))))) = elim e [ ]
 
 -- on a port that passes the field test the call is all there is
-passing_tested : (c : Command) (p : Port) → valid p ≡ true → Tested p four (direct c p)
+passing_tested : (c : Call) (p : Port) → valid p ≡ true → Tested p four (direct c p)
 unfolding direct
 passing_tested c p e =
     by_cond (Tested p four) (valid p) (called c p) (refuse 8 p) (λ b. called_tested p c) (λ b. absurd (true≢false (sym e ∙ b)))
@@ -158,7 +158,7 @@ not_8 (inr (inr (inl e))) = omega arith
 not_8 (inr (inr (inr (inl e)))) = omega arith
 not_8 (inr (inr (inr (inr e)))) = elim e [ ]
 
-pub passing_not_8 : (c : Command) (p q : Port) (offset : ℕ) → valid p ≡ true → direct c p ≡ refused 8 offset q → ⊥
+pub passing_not_8 : (c : Call) (p q : Port) (offset : ℕ) → valid p ≡ true → direct c p ≡ refused 8 offset q → ⊥
 passing_not_8 c p q offset e r = not_8 (subst (Stands p four) r (stands p four (direct c p) (passing_tested c p e))).2
 
 pub never_refused_by_8 : NeverRefusedBy8

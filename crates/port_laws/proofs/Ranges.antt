@@ -16,8 +16,8 @@ use Rattle.port.specs.Registers.{handles, peek}
 use Rattle.port.specs.Power.{fresh}
 use Rattle.port.specs.Input.{pins_change}
 use Rattle.port.specs.Valid.{limit, valid}
-use Rattle.command.specs.declared.Command.{Command}
-use Rattle.command.specs.declared.Command.TheVariants.{Read, Write, Wait, Line, Pins, Power, Inside}
+use Rattle.command.specs.declared.Call.{Call}
+use Rattle.command.specs.declared.Call.TheVariants.{Read, Write, Wait, Line, Pins, Power, Inside}
 use Rattle.port.specs.Calls.{Answer, done, refused, after, refuse, bit, called, direct, run}
 use Rattle.port_laws.specs.Ranges.{InRange, FreshInRange, KeepsRanges, AnswersAByte, GrownInRange}
 use Rattle.branches.proofs.Branches.{by_cond, both_arms}
@@ -46,14 +46,14 @@ three p e =
 abbrev WithinAfter : Answer → Type 0
 WithinAfter r = Within (after r)
 
-called_within : (c : Command) (p : Port) → valid p ≡ true → InRange p → WithinAfter (called c p)
+called_within : (c : Call) (p : Port) → valid p ≡ true → InRange p → WithinAfter (called c p)
 unfolding called
 called_within c p e k = go c
   where
     same : Within p
     same = record { ranges = k }
 
-    go : (c : Command) → WithinAfter (called c p)
+    go : (c : Call) → WithinAfter (called c p)
     go (Read a) = both_arms WithinAfter (leb a 65535) _ _ (both_arms WithinAfter (handles a) _ _ (record { ranges = in_read p k a }) same) same
     go (Write a v) =
         by_cond WithinAfter (leb a 65535 && leb v 255) _ _
@@ -72,7 +72,7 @@ called_within c p e k = go c
     go (Power b) = both_arms WithinAfter (leb b 15) _ _ (record { ranges = in_power (has b 1) (has b 2) (has b 4) (has b 8) p k }) same
     go Inside = record { ranges = k }
 
-pub direct_in_range : (c : Command) (p : Port) → InRange p → Within (after (direct c p))
+pub direct_in_range : (c : Call) (p : Port) → InRange p → Within (after (direct c p))
 unfolding direct
 direct_in_range c p k =
     by_cond WithinAfter (valid p) (called c p) (refuse 8 p) (λ e. called_within c p e k) (λ e. record { ranges = k })
@@ -85,7 +85,7 @@ pub keeps_ranges : KeepsRanges
 unfolding KeepsRanges
 keeps_ranges c p q v k r = (subst WithinAfter r (direct_in_range c p k)).ranges
 
-pub run_in_range : (cs : List Command) (p : Port) → InRange p → InRange (run p cs)
+pub run_in_range : (cs : List Call) (p : Port) → InRange p → InRange (run p cs)
 unfolding run
 run_in_range [] p k = k
 run_in_range (c ∷ cs) p k = run_in_range cs (after (direct c p)) (direct_in_range c p k).ranges
@@ -115,7 +115,7 @@ peek_byte p a e k =
     arm : (b : Bool) (x y : ℕ) → x < 256 → y < 256 → cond b x y < 256
     arm = both_arms (λ (n : ℕ). n < 256)
 
-called_byte : (c : Command) (p : Port) → valid p ≡ true → InRange p → Byte (called c p)
+called_byte : (c : Call) (p : Port) → valid p ≡ true → InRange p → Byte (called c p)
 unfolding called
 called_byte (Read a) p e k = both_arms Byte (leb a 65535) _ _ (both_arms Byte (handles a) _ _ (peek_byte p a e k) tt) tt
 called_byte (Write a v) p e k =

@@ -19,8 +19,8 @@ use Rattle.port.specs.Registers.{handles, read, scr_tx, write_scr, write_tdr, cl
 use Rattle.port.specs.Power.{fresh, reset_registers, reset, with_power, set_power}
 use Rattle.port.specs.Input.{receive_input, external_edge, pins_change, input_pins}
 use Rattle.port.specs.Valid.{limit, valid}
-use Rattle.command.specs.declared.Command.{Command}
-use Rattle.command.specs.declared.Command.TheVariants.{Read, Write, Wait, Line, Pins, Power, Inside}
+use Rattle.command.specs.declared.Call.{Call}
+use Rattle.command.specs.declared.Call.TheVariants.{Read, Write, Wait, Line, Pins, Power, Inside}
 use Rattle.port.specs.Calls.{Answer, after, refuse, bit, called, direct, run}
 use Rattle.port_laws.specs.Laws.{wrap, tally, grown, finishes, receives, rises, in_halves, pins_set, in_call, in_calls}
 use Rattle.branches.proofs.Branches.{by_cond, both_arms}
@@ -147,10 +147,10 @@ module _ (field : Port → ℕ) (f : Bool → Port → Bool) (stands : (p q : Po
       (λ e. edge clock h w (pins_set_kept clock line h p k) ∙ ap (tally b) (stands p w (s.0, s.1)) ∙ grown_one b (field p) ∙ sym (ap n e)) (λ e. sym (ap n e))
 
   -- an answer to the call c on the port p counts as the law says
-  abbrev Counts : Command → Port → Answer → Type 0
+  abbrev Counts : Call → Port → Answer → Type 0
   Counts c p r = field (after r) ≡ grown (in_call f c r p) (field p)
 
-  called_counts : (c : Command) (p : Port) → Kept p.half p → Counts c p (called c p)
+  called_counts : (c : Call) (p : Port) → Kept p.half p → Counts c p (called c p)
   unfolding called grown
   called_counts (Read a) p k =
       let C : Answer → Type 0 = Counts (Read a) p in
@@ -174,11 +174,11 @@ module _ (field : Port → ℕ) (f : Bool → Port → Bool) (stands : (p q : Po
       both_arms (Counts (Power b) p) (leb b 15) _ _ (stands p (set_power (has b 1) (has b 2) (has b 4) (has b 8) p) (power_stood (has b 1) (has b 2) (has b 4) (has b 8) p)) refl
   called_counts Inside p k = stands p (inside p) (refl, refl)
 
-  pub direct_counts : (c : Command) (p : Port) → Counts c p (direct c p)
+  pub direct_counts : (c : Call) (p : Port) → Counts c p (direct c p)
   unfolding direct grown
   direct_counts c p = by_cond (Counts c p) (valid p) (called c p) (refuse 8 p) (λ e. called_counts c p (valid_sound p e).kept) (λ e. refl)
 
-  pub run_counts : (cs : List Command) (p : Port) → field (run p cs) ≡ grown (in_calls f p cs) (field p)
+  pub run_counts : (cs : List Call) (p : Port) → field (run p cs) ≡ grown (in_calls f p cs) (field p)
   unfolding run in_calls grown
   run_counts [] p = refl
   run_counts (c ∷ cs) p =

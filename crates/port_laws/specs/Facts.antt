@@ -9,8 +9,8 @@ use Rattle.shift.specs.declared.Tx.TheVariants.{Off, Blocked, Mark, Start, Data,
 use Rattle.port.specs.Fields.{with_half, with_tx, with_rx, with_sync_next, with_transmitted, with_received}
 use Rattle.port.specs.Power.{fresh}
 use Rattle.port.specs.Valid.{limit}
-use Rattle.command.specs.declared.Command.{Command}
-use Rattle.command.specs.declared.Command.TheVariants.{Read, Write, Wait, Line, Pins, Power, Inside}
+use Rattle.command.specs.declared.Call.{Call}
+use Rattle.command.specs.declared.Call.TheVariants.{Read, Write, Wait, Line, Pins, Power, Inside}
 use Rattle.port.specs.Calls.{Answer, done, refused, after, run}
 use Rattle.port.specs.Facts.{computed, after_calls, line, receiving, words_on_line, receives, as_received}
 
@@ -46,7 +46,7 @@ refusal (refused n offset q) = n
 
 -- a call, the port it is made on, and the number it gives
 pub data Tried : Type 0 where
-  gives : Command → Port → ℕ → Tried
+  gives : Call → Port → ℕ → Tried
 
 unfoldable pub as_numbered : Tried → Bool
 unfolding computed
@@ -121,7 +121,7 @@ pub data Fallen : Type 0 where
 unfoldable pub as_sampled : Fallen → Bool
 unfolding after_calls computed
 as_sampled (falls semr cell spcr start n) =
-    let fall : List Command = Wait start ∷ line spcr false ∷ Wait cell ∷ line spcr true ∷ Wait (n - 1 - (start + cell)) ∷ [] in
+    let fall : List Call = Wait start ∷ line spcr false ∷ Wait cell ∷ line spcr true ∷ Wait (n - 1 - (start + cell)) ∷ [] in
     let p : Port = after_calls (receiving 0 semr spcr ++ fall) in
     eqb p.ssr 0x84 && eqb (after (computed (Wait 1) p)).ssr 0xc4
 
@@ -153,7 +153,7 @@ words_received = refl
 
 -- ---- the status write
 -- SSR 0xC4 with TE off, these calls, and 0xBF written to SSR
-unfoldable pub written : List Command → ℕ
+unfoldable pub written : List Call → ℕ
 unfolding after_calls words_on_line
 written cs = (after_calls (receiving 0 0 0 ++ (words_on_line 0 32 10 (0x2AA ∷ []) ++ (cs ++ (Write 0xff9c 0xbf ∷ []))))).ssr
 
@@ -187,7 +187,7 @@ sender_before_receiver = refl
 
 -- ---- the tallies wrap to zero
 -- these calls on a fresh port with both tallies at their greatest
-unfoldable pub from_greatest : List Command → Port
+unfoldable pub from_greatest : List Call → Port
 unfolding computed run fresh
 from_greatest cs =
     run (with_transmitted (with_received fresh 0xffffffffffffffff) 0xffffffffffffffff) cs

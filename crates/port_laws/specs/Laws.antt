@@ -18,8 +18,8 @@ use Rattle.port.specs.Half.{half_step}
 use Rattle.port.specs.Power.{fresh}
 use Rattle.port.specs.Input.{receive_input, external_edge, pins_change}
 use Rattle.port.specs.Valid.{valid}
-use Rattle.command.specs.declared.Command.{Command}
-use Rattle.command.specs.declared.Command.TheVariants.{Read, Write, Wait, Line, Pins, Power, Inside}
+use Rattle.command.specs.declared.Call.{Call}
+use Rattle.command.specs.declared.Call.TheVariants.{Read, Write, Wait, Line, Pins, Power, Inside}
 use Rattle.port.specs.Calls.{Answer, done, refused, after, bit, called, direct, run}
 use Rattle.shift.specs.declared.Character.{Character}
 
@@ -29,18 +29,18 @@ FreshPasses = valid fresh ≡ true
 
 -- every accepted call keeps it, from any port that passes
 unfoldable pub KeepsFieldTest : Type 0
-KeepsFieldTest = (c : Command) (p q : Port) (v : ℕ) → valid p ≡ true → called c p ≡ done v q → valid q ≡ true
+KeepsFieldTest = (c : Call) (p q : Port) (v : ℕ) → valid p ≡ true → called c p ≡ done v q → valid q ≡ true
 
 -- a direct call tests it first, so what an accepted one leaves passes, whatever the port was
 unfoldable pub AcceptedPasses : Type 0
-AcceptedPasses = (c : Command) (p q : Port) (v : ℕ) → direct c p ≡ done v q → valid q ≡ true
+AcceptedPasses = (c : Call) (p q : Port) (v : ℕ) → direct c p ≡ done v q → valid q ≡ true
 
 -- a port grown from a fresh one by any direct calls passes, so none of its calls is refused by 8
 unfoldable pub GrownPasses : Type 0
-GrownPasses = (cs : List Command) → valid (run fresh cs) ≡ true
+GrownPasses = (cs : List Call) → valid (run fresh cs) ≡ true
 
 unfoldable pub NeverRefusedBy8 : Type 0
-NeverRefusedBy8 = (cs : List Command) (c : Command) (offset : ℕ) (q : Port) → direct c (run fresh cs) ≡ refused 8 offset q → ⊥
+NeverRefusedBy8 = (cs : List Call) (c : Call) (offset : ℕ) (q : Port) → direct c (run fresh cs) ≡ refused 8 offset q → ⊥
 
 -- ---- refusals
 abbrev pub OneOf : List ℕ → ℕ → Type 0
@@ -50,7 +50,7 @@ OneOf (m ∷ ms) n = (n ≡ m) ⊎ OneOf ms n
 -- a refused call leaves the port as it was, at offset 0, with one of the numbers of the direct calls' tests
 unfoldable pub RefusedStands : Type 0
 RefusedStands =
-    (c : Command) (p q : Port) (n offset : ℕ) → direct c p ≡ refused n offset q → (q ≡ p) × (offset ≡ 0) × OneOf (8 ∷ 2 ∷ 1 ∷ 3 ∷ 4 ∷ []) n
+    (c : Call) (p q : Port) (n offset : ℕ) → direct c p ≡ refused n offset q → (q ≡ p) × (offset ≡ 0) × OneOf (8 ∷ 2 ∷ 1 ∷ 3 ∷ 4 ∷ []) n
 
 -- ---- the two tallies: words received and words sent, modulo 2 to the 64th
 abbrev pub wrap : ℕ
@@ -132,7 +132,7 @@ in_halves f (suc n) p = one_if (f (rises p) p) + in_halves f n (half_step p)
 abbrev pub pins_set : Bool → Bool → Port → Port
 pins_set clock line p = with_input_clock (receive_input line p) clock
 
-abbrev pub in_call : (Bool → Port → Bool) → Command → Answer → Port → ℕ
+abbrev pub in_call : (Bool → Port → Bool) → Call → Answer → Port → ℕ
 in_call f c (refused n offset q) p = 0
 in_call f (Read a) (done v q) p = 0
 in_call f (Write a x) (done v q) p = 0
@@ -144,18 +144,18 @@ in_call f (Pins clock line) (done v q) p =
 in_call f (Power b) (done v q) p = 0
 in_call f Inside (done v q) p = 0
 
-unfoldable pub in_calls : (Bool → Port → Bool) → Port → List Command → ℕ
+unfoldable pub in_calls : (Bool → Port → Bool) → Port → List Call → ℕ
 in_calls f p [] = 0
 in_calls f p (c ∷ cs) = in_call f c (direct c p) p + in_calls f (after (direct c p)) cs
 
 -- no call changes a tally but by these halves and edges
 unfoldable pub CallCounts : Type 0
 CallCounts =
-    (c : Command) (p : Port) → let q = after (direct c p) in
+    (c : Call) (p : Port) → let q = after (direct c p) in
     (q.received ≡ grown (in_call receives c (direct c p) p) p.received) × (q.transmitted ≡ grown (in_call finishes c (direct c p) p) p.transmitted)
 
 -- so on a port grown from a fresh one they are the numbers of such words, modulo 2 to the 64th
 unfoldable pub TalliesCount : Type 0
 TalliesCount =
-    (cs : List Command) → let q = run fresh cs in
+    (cs : List Call) → let q = run fresh cs in
     (q.received ≡ in_calls receives fresh cs % wrap) × (q.transmitted ≡ in_calls finishes fresh cs % wrap)

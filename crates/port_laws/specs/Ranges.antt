@@ -5,7 +5,7 @@
 use Rattle.std.specs.Prelude.{◌≡◌, ℕ, ◌<◌, List, Option, None, Some}
 use Rattle.port.specs.declared.Port.{Port}
 use Rattle.port.specs.Power.{fresh}
-use Rattle.command.specs.declared.Command.{Command}
+use Rattle.command.specs.declared.Call.{Call}
 use Rattle.port.specs.Calls.{done, direct, run}
 use Rattle.port_laws.specs.Laws.{wrap}
 use Rattle.shift.specs.declared.Rx.{Rx}
@@ -41,11 +41,11 @@ FreshInRange = InRange fresh
 
 -- every accepted call keeps it
 unfoldable pub KeepsRanges : Type 0
-KeepsRanges = (c : Command) (p q : Port) (v : ℕ) → InRange p → direct c p ≡ done v q → InRange q
+KeepsRanges = (c : Call) (p q : Port) (v : ℕ) → InRange p → direct c p ≡ done v q → InRange q
 
 -- and answers a byte
 unfoldable pub AnswersAByte : Type 0
-AnswersAByte = (c : Command) (p q : Port) (v : ℕ) → InRange p → direct c p ≡ done v q → v < 256
+AnswersAByte = (c : Call) (p q : Port) (v : ℕ) → InRange p → direct c p ≡ done v q → v < 256
 
 unfoldable pub GrownInRange : Type 0
-GrownInRange = (cs : List Command) → InRange (run fresh cs)
+GrownInRange = (cs : List Call) → InRange (run fresh cs)

@@ -9,8 +9,8 @@ use mathlib.Core.List.{List, [], ◌∷◌, ◌++◌}
 use lib.Dec.{eqb, leb}
 use borrow.Author.Tests.{leb-true, leb-false}
 use Rattle.port.specs.Calls.{run as port_run, Answer, after, bit, called, direct, done, refuse}
-use Rattle.command.specs.declared.Command.{Command}
-use Rattle.command.specs.declared.Command.TheVariants.{Wait, Inside, Read, Line, Pins, Power, Write}
+use Rattle.command.specs.declared.Call.{Call}
+use Rattle.command.specs.declared.Call.TheVariants.{Wait, Inside, Read, Line, Pins, Power, Write}
 use Rattle.port.specs.declared.Port.{Port}
 use Rattle.frame.specs.Frame.{differ, has}
 use Rattle.port.specs.Baud.{edge_counts, internal}
@@ -94,7 +94,7 @@ module _ (s : Wired) (l : Lined s) (v : valid s.port ≡ true) (t : Near s.port)
       Is : Answer → Type 0
       Is r = call_trace direct (Wait n) r s ≡ moments_of (Wait n) r s.port
 
-  call_is : (c : Command) → call_trace direct c (direct c s.port) s ≡ moments_of c (direct c s.port) s.port
+  call_is : (c : Call) → call_trace direct c (direct c s.port) s ≡ moments_of c (direct c s.port) s.port
   call_is (Wait n) = wait_call n
   call_is (Read a) = refl
   call_is (Write a w) = refl
@@ -109,31 +109,31 @@ pub record Grown (s : Wired) : Type 0 where
   pub tested : valid s.port ≡ true
   pub near : Near s.port
 
-pub grown_after : (c : Command) (s : Wired) → Grown s → Grown (wired_after c (direct c s.port) s)
+pub grown_after : (c : Call) (s : Wired) → Grown s → Grown (wired_after c (direct c s.port) s)
 grown_after c s g = record { lined = lined_after c s g.lined; tested = direct_valid c s.port g.tested; near = near_direct c s.port g.near }
 
-pub grown_run : (cs : List Command) (s : Wired) → Grown s → Grown (run_wired direct s cs)
+pub grown_run : (cs : List Call) (s : Wired) → Grown s → Grown (run_wired direct s cs)
 unfolding run_wired
 grown_run [] s g = g
 grown_run (c ∷ cs) s g = grown_run cs (wired_after c (direct c s.port) s) (grown_after c s g)
 
-pub run_is : (cs : List Command) (s : Wired) → port_run s.port cs ≡ (run_wired direct s cs).port
+pub run_is : (cs : List Call) (s : Wired) → port_run s.port cs ≡ (run_wired direct s cs).port
 unfolding run_wired port_run
 run_is [] s = refl
 run_is (c ∷ cs) s = run_is cs (wired_after c (direct c s.port) s)
 
-pub trace_is : (cs : List Command) (s : Wired) → Grown s → trace direct s cs ≡ moments s.port cs
+pub trace_is : (cs : List Call) (s : Wired) → Grown s → trace direct s cs ≡ moments s.port cs
 unfolding trace moments
 trace_is [] s g = refl
 trace_is (c ∷ cs) s g = ap₂ (λ (x y : List Moment). x ++ y) (call_is s g.lined g.tested g.near c) (trace_is cs (wired_after c (direct c s.port) s) (grown_after c s g))
 
-pub rest_calls : (cs : List Command) (s : Wired) → Lined s → each direct (λ c a q. allowed_in_rest c a × (line_at_mark q ≡ true)) s cs → each_call rests s.port cs
+pub rest_calls : (cs : List Call) (s : Wired) → Lined s → each direct (λ c a q. allowed_in_rest c a × (line_at_mark q ≡ true)) s cs → each_call rests s.port cs
 rest_calls [] s l e = tt
 rest_calls (c ∷ cs) s l e =
     let l' : Lined (wired_after c (direct c s.port) s) = lined_after c s l in
     ((e.0.0, ap (λ (b : Bool). differ b (has (wired_after c (direct c s.port) s).port.spcr 1)) l' ∙ e.0.1), rest_calls cs (wired_after c (direct c s.port) s) l' e.1)
 
-pub words_calls : (cs : List Command) (s : Wired) → each direct (λ c a q. allowed_in_words c a) s cs → each_call (λ c a q. allowed_in_words c a) s.port cs
+pub words_calls : (cs : List Call) (s : Wired) → each direct (λ c a q. allowed_in_words c a) s cs → each_call (λ c a q. allowed_in_words c a) s.port cs
 words_calls [] s e = tt
 words_calls (c ∷ cs) s e = (e.0, words_calls cs (wired_after c (direct c s.port) s) e.1)
 
@@ -141,7 +141,7 @@ words_calls (c ∷ cs) s e = (e.0, words_calls cs (wired_after c (direct c s.por
 Other : Answer → Type 0
 Other r = by_8 r ≡ false
 
-named : (c : Command) (p : Port) → Other (called c p)
+named : (c : Call) (p : Port) → Other (called c p)
 unfolding called Other
 named (Read a) p = both_arms Other (leb a 65535) _ _ (both_arms Other (handles a) _ _ refl refl) refl
 named (Write a v) p = both_arms Other (leb a 65535 && leb v 255) _ _ (both_arms Other (handles a) _ _ (both_arms Other (eqb a 0xffa7 && leb 128 v) _ _ refl refl) refl) refl
@@ -151,10 +151,10 @@ named (Pins c b) p = both_arms Other (leb c 1 && leb b 1) _ _ (both_arms Other (
 named (Power b) p = both_arms Other (leb b 15) _ _ refl refl
 named Inside p = refl
 
-not_by_8 : (c : Command) (p : Port) → valid p ≡ true → by_8 (direct c p) ≡ false
+not_by_8 : (c : Call) (p : Port) → valid p ≡ true → by_8 (direct c p) ≡ false
 unfolding direct Other
 not_by_8 c p v = by_cond Other (valid p) (called c p) (refuse 8 p) (λ e. named c p) (λ e. absurd (true≢false (sym v ∙ e)))
 
-pub never_by_8 : (cs : List Command) (s : Wired) → Grown s → each direct (λ c a q. by_8 a ≡ false) s cs
+pub never_by_8 : (cs : List Call) (s : Wired) → Grown s → each direct (λ c a q. by_8 a ≡ false) s cs
 never_by_8 [] s g = tt
 never_by_8 (c ∷ cs) s g = (not_by_8 c s.port g.tested, never_by_8 cs (wired_after c (direct c s.port) s) (grown_after c s g))

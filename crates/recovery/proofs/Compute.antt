@@ -13,8 +13,8 @@ use Rattle.frame.proofs.Truth.{and_both, and_left, and_right, beq_true}
 use Rattle.frame.specs.Frame.{has}
 use Rattle.port.specs.Baud.{format_of, internal}
 use Rattle.port.specs.Calls.{Answer, done, refused}
-use Rattle.command.specs.declared.Command.{Command}
-use Rattle.command.specs.declared.Command.TheVariants.{Wait, Inside, Read, Line, Pins, Power, Write}
+use Rattle.command.specs.declared.Call.{Call}
+use Rattle.command.specs.declared.Call.TheVariants.{Wait, Inside, Read, Line, Pins, Power, Write}
 use Rattle.shift.specs.Receiver.{rx_clocked}
 use Rattle.recovery.specs.Line.{Count, Event, LineItem, count_after, half_passes, none_yet, other, prefix, rdr_read, signal, stop_cells_begun, stop_cells_passed, tally_after, values}
 use Rattle.recovery.specs.Outside.{keeps_start_stop}
@@ -39,7 +39,7 @@ prefix_sound [] ys e = tt
 prefix_sound (x ∷ xs) [] e = absurd (false≢true e)
 prefix_sound (x ∷ xs) (y ∷ ys) e = (beq_true x y (and_left (beq x y) _ e), prefix_sound xs ys (and_right (beq x y) _ e))
 
-unfoldable pub may_rest : Command → Answer → Bool
+unfoldable pub may_rest : Call → Answer → Bool
 may_rest (Write x v) a = not (accepted a) || (eqb x 0xff9c || eqb x 0xff9d)
 may_rest (Power b) a = not (accepted a)
 may_rest (Read x) a = true
@@ -48,7 +48,7 @@ may_rest (Line b) a = true
 may_rest (Pins c b) a = true
 may_rest Inside a = true
 
-rest_sound : (c : Command) (a : Answer) → may_rest c a ≡ true → allowed_in_rest c a
+rest_sound : (c : Call) (a : Answer) → may_rest c a ≡ true → allowed_in_rest c a
 unfolding may_rest
 rest_sound (Write x v) a e = go (accepted a) e
   where
@@ -62,7 +62,7 @@ rest_sound (Line b) a e = tt
 rest_sound (Pins c b) a e = tt
 rest_sound Inside a e = tt
 
-unfoldable pub may_read : Command → Answer → Bool
+unfoldable pub may_read : Call → Answer → Bool
 may_read (Write x v) a = not (accepted a)
 may_read (Power b) a = not (accepted a)
 may_read (Read x) a = true
@@ -71,7 +71,7 @@ may_read (Line b) a = true
 may_read (Pins c b) a = true
 may_read Inside a = true
 
-words_sound : (c : Command) (a : Answer) → may_read c a ≡ true → allowed_in_words c a
+words_sound : (c : Call) (a : Answer) → may_read c a ≡ true → allowed_in_words c a
 unfolding may_read
 words_sound (Write x v) a e = not-true (accepted a) e
 words_sound (Power b) a e = not-true (accepted a) e
@@ -81,7 +81,7 @@ words_sound (Line b) a e = tt
 words_sound (Pins c b) a e = tt
 words_sound Inside a e = tt
 
-unfoldable pub may_form : Command → Answer → Bool
+unfoldable pub may_form : Call → Answer → Bool
 may_form (Write x v) a = not (accepted a && (eqb x 0xff98 && has v 0x80))
 may_form (Power b) a = true
 may_form (Read x) a = true
@@ -90,7 +90,7 @@ may_form (Line b) a = true
 may_form (Pins c b) a = true
 may_form Inside a = true
 
-form_sound : (c : Command) (a : Answer) → may_form c a ≡ true → keeps_start_stop c a
+form_sound : (c : Call) (a : Answer) → may_form c a ≡ true → keeps_start_stop c a
 unfolding may_form
 form_sound (Write x v) a e = go (accepted a) (eqb x 0xff98) (has v 0x80) e
   where
@@ -127,28 +127,28 @@ separated_sound (m ∷ ms) c e = (go m.event (and_left (was_read m.event c) _ e)
     go (rdr_read a) g = tt
     go other g = tt
 
-module _ (direct : Command → Port → Answer) where
-  unfoldable pub all_may : (Command → Answer → Bool) → (Wired → Bool) → Wired → List Command → Bool
+module _ (direct : Call → Port → Answer) where
+  unfoldable pub all_may : (Call → Answer → Bool) → (Wired → Bool) → Wired → List Call → Bool
   all_may f g s [] = true
   all_may f g s (c ∷ cs) =
       let a = direct c s.port in
       (f c a && g (wired_after c a s)) && all_may f g (wired_after c a s) cs
 
-  rests_sound : (cs : List Command) (s : Wired) → all_may may_rest line_at_mark s cs ≡ true → each direct (λ c a q. allowed_in_rest c a × (line_at_mark q ≡ true)) s cs
+  rests_sound : (cs : List Call) (s : Wired) → all_may may_rest line_at_mark s cs ≡ true → each direct (λ c a q. allowed_in_rest c a × (line_at_mark q ≡ true)) s cs
   unfolding all_may
   rests_sound [] s e = tt
   rests_sound (c ∷ cs) s e =
       let b : (may_rest c (direct c s.port) && line_at_mark (wired_after c (direct c s.port) s)) ≡ true = and_left (may_rest c (direct c s.port) && line_at_mark (wired_after c (direct c s.port) s)) _ e in
       ((rest_sound c (direct c s.port) (and_left (may_rest c (direct c s.port)) _ b), and_right (may_rest c (direct c s.port)) _ b), rests_sound cs (wired_after c (direct c s.port) s) (and_right (may_rest c (direct c s.port) && line_at_mark (wired_after c (direct c s.port) s)) _ e))
 
-  reads_sound : (cs : List Command) (s : Wired) → all_may may_read (λ q. true) s cs ≡ true → each direct (λ c a q. allowed_in_words c a) s cs
+  reads_sound : (cs : List Call) (s : Wired) → all_may may_read (λ q. true) s cs ≡ true → each direct (λ c a q. allowed_in_words c a) s cs
   unfolding all_may
   reads_sound [] s e = tt
   reads_sound (c ∷ cs) s e =
       let b : (may_read c (direct c s.port) && true) ≡ true = and_left (may_read c (direct c s.port) && true) _ e in
       (words_sound c (direct c s.port) (and_left (may_read c (direct c s.port)) _ b), reads_sound cs (wired_after c (direct c s.port) s) (and_right (may_read c (direct c s.port) && true) _ e))
 
-  pub forms_sound : (cs : List Command) (s : Wired) → all_may may_form (λ q. true) s cs ≡ true → each direct (λ c a q. keeps_start_stop c a) s cs
+  pub forms_sound : (cs : List Call) (s : Wired) → all_may may_form (λ q. true) s cs ≡ true → each direct (λ c a q. keeps_start_stop c a) s cs
   unfolding all_may
   forms_sound [] s e = tt
   forms_sound (c ∷ cs) s e =
@@ -159,7 +159,7 @@ module _ (direct : Command → Port → Answer) where
   history_meets h = has h.port.scr 0x10 && (not (has h.port.smr 0x80) && (not (has h.port.ssr 0x38) && internal h.port))
 
   -- the halves of a list of calls, counted without a look at the ports
-  abbrev pub call_halves : Command → Answer → Port → ℕ
+  abbrev pub call_halves : Call → Answer → Port → ℕ
   call_halves (Wait n) a p = cond (accepted a && internal p) n 0
   call_halves (Read x) a p = 0
   call_halves (Write x v) a p = 0
@@ -168,7 +168,7 @@ module _ (direct : Command → Port → Answer) where
   call_halves (Power b) a p = 0
   call_halves Inside a p = 0
 
-  unfoldable pub count_halves : Wired → List Command → ℕ
+  unfoldable pub count_halves : Wired → List Call → ℕ
   count_halves s [] = 0
   count_halves s (c ∷ cs) =
       let a = direct c s.port in
@@ -184,7 +184,7 @@ module _ (direct : Command → Port → Answer) where
   none_else e (done v q) k = ap length (k v)
   none_else e (refused n offset q) k = refl
 
-  call_length : (c : Command) (a : Answer) (s : Wired) → length (levels (call_trace direct c a s)) ≡ call_halves c a s.port
+  call_length : (c : Call) (a : Answer) (s : Wired) → length (levels (call_trace direct c a s)) ≡ call_halves c a s.port
   unfolding levels
   call_length (Wait n) (done v q) s = go (internal s.port)
     where
@@ -203,7 +203,7 @@ module _ (direct : Command → Port → Answer) where
   call_length (Power b) a s = none_else (λ u. other) a (λ u. refl)
   call_length Inside a s = none_else (λ u. other) a (λ u. refl)
 
-  halves_counted : (cs : List Command) (s : Wired) → length (levels (trace direct s cs)) ≡ count_halves s cs
+  halves_counted : (cs : List Call) (s : Wired) → length (levels (trace direct s cs)) ≡ count_halves s cs
   unfolding trace count_halves levels
   halves_counted [] s = refl
   halves_counted (c ∷ cs) s =
@@ -211,11 +211,11 @@ module _ (direct : Command → Port → Answer) where
       levels_append (call_trace direct c a s) (trace direct (wired_after c a s) cs) ∙ ap₂ (λ (x y : ℕ). x + y) (call_length c a s) (halves_counted cs (wired_after c a s))
 
   -- `n` halves at least: 384 in the claim
-  unfoldable pub rest_meets : ℕ → Wired → List Command → Wired → Bool
+  unfoldable pub rest_meets : ℕ → Wired → List Call → Wired → Bool
   rest_meets n h rest r =
       line_at_mark h && (all_may may_rest line_at_mark h rest && (leb n (count_halves h rest) && (not (has r.port.ssr 0x78) && not (rx_clocked r.port.rx))))
 
-  unfoldable pub words_meet : Wired → List Command → List LineItem → List Moment → Bool
+  unfoldable pub words_meet : Wired → List Call → List LineItem → List Moment → Bool
   words_meet r words items ms =
       all_may may_read (λ q. true) r words && (is_prefix (levels ms) (signal (format_of r.port) items) && are_separated none_yet ms)
 
@@ -231,7 +231,7 @@ module _ (direct : Command → Port → Answer) where
         clock = and_right (not (has h.port.ssr 0x38)) _ e2;
       }
 
-  rest_is : (h : Wired) (rest : List Command) → rest_meets 384 h rest (run_wired direct h rest) ≡ true → Rest direct h rest
+  rest_is : (h : Wired) (rest : List Call) → rest_meets 384 h rest (run_wired direct h rest) ≡ true → Rest direct h rest
   unfolding rest_meets
   rest_is h rest e =
       let a : Bool = all_may may_rest line_at_mark h rest in
@@ -249,7 +249,7 @@ module _ (direct : Command → Port → Answer) where
         no_clocked_word = not-true (rx_clocked (run_wired direct h rest).port.rx) (and_right c d e3);
       }
 
-  words_are : (r : Wired) (words : List Command) (items : List LineItem) → words_meet r words items (trace direct r words) ≡ true → Words direct r words items
+  words_are : (r : Wired) (words : List Call) (items : List LineItem) → words_meet r words items (trace direct r words) ≡ true → Words direct r words items
   unfolding words_meet
   words_are r words items e =
       let ms : List Moment = trace direct r words in
@@ -264,21 +264,21 @@ module _ (direct : Command → Port → Answer) where
       }
 
   -- a list of calls that meets what is asked; `h` and `r` are where history and rest lead, `ms` the moments of the words
-  unfoldable pub asked_of : ℕ → Wired → List Command → Wired → List Command → List LineItem → List Moment → Bool
+  unfoldable pub asked_of : ℕ → Wired → List Call → Wired → List Call → List LineItem → List Moment → Bool
   asked_of n h rest r words items ms = history_meets h && (rest_meets n h rest r && words_meet r words items ms)
 
-  unfoldable pub meets : List Command → List Command → List Command → List LineItem → Bool
+  unfoldable pub meets : List Call → List Call → List Call → List LineItem → Bool
   meets history rest words items =
       let h = run_wired direct start history in
       let r = run_wired direct h rest in
       asked_of 384 h rest r words items (trace direct r words)
 
-  pub record Met (history rest words : List Command) (items : List LineItem) : Type 0 where
+  pub record Met (history rest words : List Call) (items : List LineItem) : Type 0 where
     pub ended : HistoryEnd (run_wired direct start history)
     pub rested : Rest direct (run_wired direct start history) rest
     pub worded : Words direct (run_wired direct (run_wired direct start history) rest) words items
 
-  pub met : (history rest words : List Command) (items : List LineItem) → meets history rest words items ≡ true → Met history rest words items
+  pub met : (history rest words : List Call) (items : List LineItem) → meets history rest words items ≡ true → Met history rest words items
   unfolding meets asked_of
   met history rest words items e =
       let h : Wired = run_wired direct start history in
@@ -336,27 +336,27 @@ all_stand_so first items [] c t = refl
 all_stand_so first items (m ∷ ms) c t =
     and_both (stands first items (count_after c m.event) m) _ (stands_so first items (count_after c m.event) m t.0) (all_stand_so first items ms (count_after c m.event) t.1)
 
-module _ (direct : Command → Port → Answer) where
-  unfoldable pub none_by_8 : Wired → List Command → Bool
+module _ (direct : Call → Port → Answer) where
+  unfoldable pub none_by_8 : Wired → List Call → Bool
   none_by_8 s [] = true
   none_by_8 s (c ∷ cs) =
       let a = direct c s.port in
       not (by_8 a) && none_by_8 (wired_after c a s) cs
 
-  none_so : (cs : List Command) (s : Wired) → each direct (λ c a q. by_8 a ≡ false) s cs → none_by_8 s cs ≡ true
+  none_so : (cs : List Call) (s : Wired) → each direct (λ c a q. by_8 a ≡ false) s cs → none_by_8 s cs ≡ true
   unfolding none_by_8
   none_so [] s e = refl
   none_so (c ∷ cs) s e = and_both (not (by_8 (direct c s.port))) _ (ap not e.0) (none_so cs (wired_after c (direct c s.port) s) e.1)
 
   -- a list that meets what is asked, and of which what is claimed fails
-  unfoldable pub breaks : ℕ → List Command → List Command → List Command → List LineItem → Bool
+  unfoldable pub breaks : ℕ → List Call → List Call → List Call → List LineItem → Bool
   breaks n history rest words items =
       let h = run_wired direct start history in
       let r = run_wired direct h rest in
       let ms = trace direct r words in
       asked_of direct n h rest r words items ms && not (none_by_8 start (history ++ (rest ++ words)) && all_stand r.port items none_yet ms)
 
-  pub refuted : (history rest words : List Command) (items : List LineItem) → breaks 384 history rest words items ≡ true → Recovers direct → ⊥
+  pub refuted : (history rest words : List Call) (items : List LineItem) → breaks 384 history rest words items ≡ true → Recovers direct → ⊥
   unfolding Recovers breaks meets
   refuted history rest words items e claim =
       let h : Wired = run_wired direct start history in

@@ -9,8 +9,8 @@ use lib.Dec.{eqb, ltb, leb}
 use lib.ListN.{get_or}
 use borrow.Author.Tests.{le-ltb, le-leb, ltb-true, leb-true, leb-false}
 use Rattle.port.specs.Calls.{run as port_run, Answer, after, called, direct, done, refuse, refused}
-use Rattle.command.specs.declared.Command.{Command}
-use Rattle.command.specs.declared.Command.TheVariants.{Wait, Inside, Read, Line, Pins, Power, Write}
+use Rattle.command.specs.declared.Call.{Call}
+use Rattle.command.specs.declared.Call.TheVariants.{Wait, Inside, Read, Line, Pins, Power, Write}
 use Rattle.frame.specs.declared.Format.{Format}
 use Rattle.port.specs.declared.Port.{Port}
 use Rattle.frame.specs.Frame.{has, one_if, stop}
@@ -257,7 +257,7 @@ module _ (first : Port) (items : List LineItem) (ms : List Moment) (al : through
       subst (λ (n : ℕ). (w : NthWord items n) × (cell_begins (format_of first) w.earlier ≤ k) × (k < cell_ends (format_of first) w.earlier)) q
       (in_stop_cell (format_of first) cell_is_long has_stop items k (omega arith))
 
-pub demanded : (port : Command → Port → Answer) → Recovers port → Demand port
+pub demanded : (port : Call → Port → Answer) → Recovers port → Demand port
 unfolding Recovers Demand tally_after
 demanded port claim history rest words items he rs ws =
     let r : Wired = run_wired port (run_wired port start history) rest in
@@ -291,12 +291,12 @@ demanded port claim history rest words items he rs ws =
 pub demand : Demand direct
 demand = demanded direct recovery
 
-pub run_append : (port : Command → Port → Answer) (xs ys : List Command) (s : Wired) → run_wired port s (xs ++ ys) ≡ run_wired port (run_wired port s xs) ys
+pub run_append : (port : Call → Port → Answer) (xs ys : List Call) (s : Wired) → run_wired port s (xs ++ ys) ≡ run_wired port (run_wired port s xs) ys
 unfolding run_wired
 run_append port [] ys s = refl
 run_append port (c ∷ xs) ys s = run_append port xs ys (wired_after c (port c s.port) s)
 
-pub one_list : (port : Command → Port → Answer) → OneList port
+pub one_list : (port : Call → Port → Answer) → OneList port
 unfolding OneList
 one_list port history rest words = run_append port history (rest ++ words) start ∙ run_append port rest words (run_wired port start history)
 
@@ -340,7 +340,7 @@ abbrev Stays : Answer → Port → Type 0
 Stays (done v q) p = Unit {0}
 Stays (refused n offset q) p = q ≡ p
 
-stays : (c : Command) (p : Port) → Stays (direct c p) p
+stays : (c : Call) (p : Port) → Stays (direct c p) p
 unfolding RefusedStands
 stays c p = go (direct c p) refl
   where
@@ -352,7 +352,7 @@ last_one : (e : ℕ → Event) (r : Answer) (p : Port) → Stays r p → last_po
 last_one e (done v q) p k = refl
 last_one e (refused n offset q) p k = sym k
 
-last_call : (c : Command) (p : Port) → last_port p (moments_of c (direct c p) p) ≡ after (direct c p)
+last_call : (c : Call) (p : Port) → last_port p (moments_of c (direct c p) p) ≡ after (direct c p)
 last_call (Wait n) p = last_wait n p
 last_call (Read a) p = last_one (λ v. cond (eqb a 0xff9d) (rdr_read v) other) (direct (Read a) p) p (stays (Read a) p)
 last_call (Write a v) p = last_one (λ u. other) (direct (Write a v) p) p (stays (Write a v) p)
@@ -361,7 +361,7 @@ last_call (Pins c b) p = last_one (λ u. other) (direct (Pins c b) p) p (stays (
 last_call (Power b) p = last_one (λ u. other) (direct (Power b) p) p (stays (Power b) p)
 last_call Inside p = last_one (λ u. other) (direct Inside p) p (stays Inside p)
 
-last_moment : (cs : List Command) (p : Port) → last_port p (moments p cs) ≡ port_run p cs
+last_moment : (cs : List Call) (p : Port) → last_port p (moments p cs) ≡ port_run p cs
 unfolding moments port_run
 last_moment [] p = refl
 last_moment (c ∷ cs) p =

@@ -9,9 +9,9 @@ use lib.ListN.{replicate, length, take, drop, get_or}
 use borrow.Author.Tests.{leb-true}
 use Rattle.frame.specs.Frame.{bits, format, word}
 use Rattle.port.specs.Baud.{format_of}
-use Rattle.command.specs.declared.Command.{Command}
+use Rattle.command.specs.declared.Call.{Call}
 use Rattle.port.specs.Calls.{direct}
-use Rattle.command.specs.declared.Command.TheVariants.{Wait, Inside, Read, Line, Pins, Power, Write}
+use Rattle.command.specs.declared.Call.TheVariants.{Wait, Inside, Read, Line, Pins, Power, Write}
 use Rattle.port.specs.Power.{fresh}
 use Rattle.recovery.specs.Corollaries.{Demand, Sentences, halves_in}
 use Rattle.recovery.specs.Line.{LineItem, mark, other, signal, spread, stop_cells_begun, stop_cells_passed, tally_after, values, word_of}
@@ -25,22 +25,22 @@ use Rattle.recovery.proofs.Recovery.{recovery}
 
 -- a word begins and reset mode comes in mid word; SPCR inverts the line, so that line 1 is off mark and a word begins at once; the format changes in
 -- that word, from 8 data bits and parity to 7 and parity; the line goes to mark, and the word is left, stale
-pub history : List Command
+pub history : List Call
 history =
     Power 3 ∷ Write 0xff98 0x20 ∷ Write 0xffa6 8 ∷ Write 0xff9a 0x10 ∷ Line 0 ∷ Wait 20 ∷ Power 8 ∷ Power 3 ∷ Line 1
     ∷ Write 0xff98 0x20 ∷ Write 0xff91 0x01 ∷ Write 0xff9a 0x10 ∷ Wait 45 ∷ Write 0xff98 0x60 ∷ Line 0 ∷ []
 
 -- 384 halves at mark, in which the stale word ends in a parity error; the flags are read, RDR is read, and the flags are cleared; two calls are refused
-pub rest : List Command
+pub rest : List Call
 rest = Wait 384 ∷ Read 0xff9c ∷ Read 0xff9d ∷ Write 0xff9c 0x87 ∷ Wait 70000 ∷ Power 16 ∷ []
 
 -- a cell of 32 halves on the inverted line
-send : List Bool → List Command
+send : List Bool → List Call
 send [] = []
 send (b ∷ bs) = Line (cond b 0 1) ∷ (replicate 4 (Wait 8) ++ send bs)
 
 -- five halves of mark, the word of 0x55, a refused write, RDR read, and with no mark between the word of 0x23, cut after 20 halves of its first stop cell
-pub words : List Command
+pub words : List Call
 words =
     Wait 5 ∷ (send (bits 10 (word (format 0x60 0) 0x55)) ++ (Write 0xff98 300 ∷ Read 0xff9d ∷ Inside
     ∷ (send (bits 9 (word (format 0x60 0) 0x23)) ++ (Pins 1 0 ∷ Wait 8 ∷ Wait 12 ∷ []))))

@@ -7,9 +7,9 @@ use mathlib.Core.List.{List, [], ◌∷◌, ◌++◌}
 use lib.Dec.{eqb}
 use lib.ListN.{replicate, length}
 use Rattle.frame.specs.Frame.{bits, format, one_if, word}
-use Rattle.command.specs.declared.Command.{Command}
+use Rattle.command.specs.declared.Call.{Call}
 use Rattle.port.specs.Calls.{direct}
-use Rattle.command.specs.declared.Command.TheVariants.{Wait, Read, Line, Power, Write}
+use Rattle.command.specs.declared.Call.TheVariants.{Wait, Read, Line, Power, Write}
 use Rattle.shift.specs.Receiver.{rx_clocked}
 use Rattle.recovery.specs.Line.{mark, signal, spread, stop_cells_begun, stop_cells_passed, tally_after, values, word_of}
 use Rattle.recovery.specs.Outside.{clock_runs}
@@ -41,17 +41,17 @@ unfolding tally_after
 wraps = refl
 
 -- ---- the port: one word of 0x55 on a line that falls after `at` halves; SEMR and SPCR as given, and the level of mark to match
-cell_of : ℕ → List Command
+cell_of : ℕ → List Call
 cell_of semr = cond (eqb semr 8) (Wait 8 ∷ Wait 8 ∷ []) (replicate 4 (Wait 8))
 
-send : ℕ → ℕ → List Bool → List Command
+send : ℕ → ℕ → List Bool → List Call
 send semr spcr [] = []
 send semr spcr (b ∷ bs) = Line (cond (eqb spcr 1) (cond b 0 1) (one_if b)) ∷ (cell_of semr ++ send semr spcr bs)
 
-set_up : ℕ → ℕ → ℕ → List Command
+set_up : ℕ → ℕ → ℕ → List Call
 set_up semr spcr at = Power 3 ∷ Write 0xff91 spcr ∷ Write 0xffa6 semr ∷ Line (cond (eqb spcr 1) 0 1) ∷ Write 0xff9a 0x10 ∷ Wait at ∷ []
 
-words : ℕ → ℕ → List Command
+words : ℕ → ℕ → List Call
 words semr spcr = send semr spcr (bits 10 (word (format 0 semr) 0x55))
 
 -- the completions within the first k halves of the word, and within k + 1; the halves of the trace; then the port's half count, RDR, SSR and tally
@@ -95,7 +95,7 @@ no_rest rs = omega (arith, short, rs.long)
 
 -- and with 256 for 384 the claim would be false. A word of 8 data bits and parity is in the receiver at history's end, its start cell just sampled. After
 -- 256 halves at mark it is there still, with no flag set, and takes the first cells of the next word for its own
-too_early : List Command
+too_early : List Call
 too_early = Power 3 ∷ Write 0xff98 0x20 ∷ Write 0xff9a 0x10 ∷ Line 0 ∷ Wait 17 ∷ Line 1 ∷ []
 
 with_256 : breaks direct 256 too_early (Wait 256 ∷ []) (send 0 0 (bits 4 (word (format 0x20 0) 0x55))) (word_of 0x55 ∷ []) ≡ true
@@ -104,7 +104,7 @@ with_256 = refl
 
 -- ---- what can be checked from outside (specs/Outside.antt): why it is asked
 -- RDR read in the first stop cell, but before its sample, is read too early: the next word overruns (SSR 0xe4). Read when the cell has passed it is in time (0xc4)
-two_words : List Command → List Command → List Command
+two_words : List Call → List Call → List Call
 two_words inside behind =
     send 8 0 (bits 9 (word (format 0 8) 0x55)) ++ (Line 1 ∷ Wait 4 ∷ (inside ++ (Wait 12 ∷ (behind ++ send 8 0 (bits 10 (word (format 0 8) 0x23))))))
 
@@ -117,7 +117,7 @@ unfolding report two_words
 read_in_time = refl
 
 -- a clocked word, begun while SMR asked for it, stays in the receiver when SMR goes back to start-stop form with RE set, and goes with RE
-left : List Command
+left : List Call
 left = Power 3 ∷ Write 0xff98 0x80 ∷ Write 0xff9a 0x10 ∷ Wait 4 ∷ Write 0xff98 0 ∷ []
 
 stays_clocked : rx_clocked (run_wired direct start left).port.rx ≡ true

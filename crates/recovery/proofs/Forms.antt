@@ -18,8 +18,8 @@ use Rattle.frame.proofs.Truth.{and_left, and_right}
 use Rattle.frame.specs.Frame.{differ, format, has}
 use Rattle.port.specs.Baud.{counted, edge_counted, edge_counts, external, format_of, internal}
 use Rattle.port.specs.Calls.{Answer, after, bit, called, direct, refuse, run as port_run}
-use Rattle.command.specs.declared.Command.{Command}
-use Rattle.command.specs.declared.Command.TheVariants.{Wait, Inside, Read, Line, Pins, Power, Write}
+use Rattle.command.specs.declared.Call.{Call}
+use Rattle.command.specs.declared.Call.TheVariants.{Wait, Inside, Read, Line, Pins, Power, Write}
 use Rattle.port.specs.Clocked.{receive_bit, receive_bit_on, refresh_sync_clock, sync_edge, take_bit, with_clock}
 use Rattle.port.specs.Fields.{with_input, with_input_clock, with_rx, with_scr, with_semr, with_smr}
 use Rattle.port.specs.Half.{advance, clocked_edge, half_step, halves, process_basic, sync, uncounted}
@@ -241,7 +241,7 @@ module _ (Q : Said) (k : Kept Q) where
       Stores : Answer → Type 0
       Stores r = (accepted r ≡ true → Of (stored a v p)) → OfAfter r
 
-  of_called : (c : Command) (p : Port) → Of p → Q (format 0 0) false None → ((a v : ℕ) → c ≡ Write a v → accepted (called c p) ≡ true → Of (stored a v p)) → Of (after (called c p))
+  of_called : (c : Call) (p : Port) → Of p → Q (format 0 0) false None → ((a v : ℕ) → c ≡ Write a v → accepted (called c p) ≡ true → Of (stored a v p)) → Of (after (called c p))
   unfolding called
   of_called (Read a) p t z s = both_arms OfAfter (leb a 65535) _ _ (both_arms OfAfter (handles a) _ _ (of_read a p t) t) t
   of_called (Write a v) p t z s = of_writes a v p t (s a v refl)
@@ -255,7 +255,7 @@ module _ (Q : Said) (k : Kept Q) where
   of_called (Power b) p t z s = both_arms OfAfter (leb b 15) _ _ (of_power (has b 1) (has b 2) (has b 4) (has b 8) p t z) t
   of_called Inside p t z s = t
 
-  of_direct : (c : Command) (p : Port) → Of p → Q (format 0 0) false None → ((a v : ℕ) → c ≡ Write a v → accepted (direct c p) ≡ true → Of (stored a v p)) → Of (after (direct c p))
+  of_direct : (c : Call) (p : Port) → Of p → Q (format 0 0) false None → ((a v : ℕ) → c ≡ Write a v → accepted (direct c p) ≡ true → Of (stored a v p)) → Of (after (direct c p))
   unfolding direct
   of_direct c p t z =
       by_cond Stores (valid p) (called c p) (refuse 8 p) (λ e. of_called c p t z) (λ e s. t)
@@ -290,7 +290,7 @@ empty_if_off_stored : (a v : ℕ) (p : Port) → Of EmptyIfOff empty_if_off p �
 empty_if_off_stored a v p t =
     of_stored EmptyIfOff empty_if_off a v p t (of_scr EmptyIfOff empty_if_off v p (λ e q. absurd (true≢false (sym e ∙ has_mask v 0xf7 0x10 refl ∙ q))) (λ e. refl)) (λ e. t) t
 
-empty_if_off_run : (cs : List Command) (p : Port) → Of EmptyIfOff empty_if_off p → Of EmptyIfOff empty_if_off (port_run p cs)
+empty_if_off_run : (cs : List Call) (p : Port) → Of EmptyIfOff empty_if_off p → Of EmptyIfOff empty_if_off (port_run p cs)
 unfolding port_run
 empty_if_off_run [] p t = t
 empty_if_off_run (c ∷ cs) p t = empty_if_off_run cs (after (direct c p)) (of_direct EmptyIfOff empty_if_off c p t (λ e. refl) (λ a v e g. empty_if_off_stored a v p t))
@@ -319,23 +319,23 @@ unfolding format
 none_clocked_stored a v p s t =
     of_stored NoneClocked none_clocked a v p t (of_scr NoneClocked none_clocked v p (λ e. t) (t.0, refl)) (λ e. (s e, t.1)) t
 
-none_clocked_call : (c : Command) (p : Port) → keeps_start_stop c (direct c p) → Of NoneClocked none_clocked p → Of NoneClocked none_clocked (after (direct c p))
+none_clocked_call : (c : Call) (p : Port) → keeps_start_stop c (direct c p) → Of NoneClocked none_clocked p → Of NoneClocked none_clocked (after (direct c p))
 unfolding format
 none_clocked_call c p s t =
     of_direct NoneClocked none_clocked c p t (refl, refl)
-    (λ a v e g. none_clocked_stored a v p (subst (λ (x : Command). keeps_start_stop x (direct x p)) e s (subst (λ (x : Command). accepted (direct x p) ≡ true) e g)) t)
+    (λ a v e g. none_clocked_stored a v p (subst (λ (x : Call). keeps_start_stop x (direct x p)) e s (subst (λ (x : Call). accepted (direct x p) ≡ true) e g)) t)
 
-none_clocked_run : (cs : List Command) (s : Wired) → each direct (λ c a q. keeps_start_stop c a) s cs → Of NoneClocked none_clocked s.port
+none_clocked_run : (cs : List Call) (s : Wired) → each direct (λ c a q. keeps_start_stop c a) s cs → Of NoneClocked none_clocked s.port
     → Of NoneClocked none_clocked (run_wired direct s cs).port
 unfolding run_wired
 none_clocked_run [] s e t = t
 none_clocked_run (c ∷ cs) s e t = none_clocked_run cs (wired_after c (direct c s.port) s) e.1 (none_clocked_call c s.port e.0 t)
 
 -- start-stop form since RE was clear: no clocked word
-pub no_clocked_word : (calls : List Command) → StartStopSince direct calls → rx_clocked (run_wired direct start calls).port.rx ≡ false
+pub no_clocked_word : (calls : List Call) → StartStopSince direct calls → rx_clocked (run_wired direct start calls).port.rx ≡ false
 unfolding fresh format
 no_clocked_word calls s =
     let q : Wired = run_wired direct start s.before in
     let idle : q.port.rx ≡ None = subst (Of EmptyIfOff empty_if_off) (run_is s.before start) (empty_if_off_run s.before fresh (λ e. refl)) s.re_clear in
-    ap (λ (cs : List Command). rx_clocked (run_wired direct start cs).port.rx) s.split ∙ ap (λ (w : Wired). rx_clocked w.port.rx) (run_append direct s.before s.since start)
+    ap (λ (cs : List Call). rx_clocked (run_wired direct start cs).port.rx) s.split ∙ ap (λ (w : Wired). rx_clocked w.port.rx) (run_append direct s.before s.since start)
     ∙ (none_clocked_run s.since q s.kept (s.start_stop, ap rx_clocked idle)).1

@@ -3,7 +3,7 @@
 use mathlib.Core.Path.{◌≡◌, refl, sym, ap, ◌∙◌, subst}
 use mathlib.Core.List.{List, [], ◌∷◌, ◌++◌}
 use Rattle.port.specs.declared.Port.{Port}
-use Rattle.command.specs.declared.Command.{Command}
+use Rattle.command.specs.declared.Call.{Call}
 use Rattle.port.specs.Calls.{after, direct, run as port_run}
 use Rattle.port.specs.Power.{fresh}
 use Rattle.recovery.specs.Corollaries.{Demand, OneList}
@@ -13,17 +13,23 @@ use Rattle.recovery.proofs.Bridge.{run_is}
 use Rattle.recovery.proofs.Corollaries.{demand, one_list}
 use Rattle.recovery.proofs.Recovery.{recovery}
 
-pub port_run_append : (xs ys : List Command) (p : Port) → port_run p (xs ++ ys) ≡ port_run (port_run p xs) ys
+pub port_run_append : (xs ys : List Call) (p : Port) → port_run p (xs ++ ys) ≡ port_run (port_run p xs) ys
 unfolding port_run
 port_run_append [] ys p = refl
 port_run_append (c ∷ xs) ys p = port_run_append xs ys (after (direct c p))
 
+-- what each command keeps, a list of them keeps
+pub all_keep : {S C : Type 0} (does : C → S → S) (P : S → Type 0) → ((c : C) (s : S) → P s → P (does c s)) → (cs : List C) (s : S) → P s → P (state_after does s cs)
+unfolding state_after
+all_keep does P k [] s h = h
+all_keep does P k (c ∷ cs) s h = all_keep does P k cs (does c s) (k c s h)
+
 -- history, rest and words are one list of calls on the fresh port
-port_is : (history rest words : List Command) → port_run fresh (history ++ (rest ++ words)) ≡ (run_wired direct (rest_end direct history rest) words).port
+port_is : (history rest words : List Call) → port_run fresh (history ++ (rest ++ words)) ≡ (run_wired direct (rest_end direct history rest) words).port
 unfolding OneList
 port_is history rest words = run_is (history ++ (rest ++ words)) start ∙ ap (λ (w : Wired). w.port) (one_list direct history rest words)
 
-module _ {S C : Type 0} (does : C → S → S) (calls : C → S → List Command) (first : S) (holds : S → Port → Type 0) (l : Layer does calls first holds) where
+module _ {S C : Type 0} (does : C → S → S) (calls : C → S → List Call) (first : S) (holds : S → Port → Type 0) (l : Layer does calls first holds) where
   -- the state after any commands holds the port that their calls leave
   pub held_after : (cs : List C) (s : S) (p : Port) → holds s p → holds (state_after does s cs) (port_run p (calls_made does calls s cs))
   unfolding state_after calls_made port_run

@@ -12,8 +12,8 @@ use Rattle.port.specs.declared.Port.{Port}
 use Rattle.frame.specs.Frame.{differ, has}
 use Rattle.port.specs.Baud.{edge_counted, edge_counts, external, format_of, internal}
 use Rattle.port.specs.Calls.{Answer, after, bit, called, direct, done, refuse, refused}
-use Rattle.command.specs.declared.Command.{Command}
-use Rattle.command.specs.declared.Command.TheVariants.{Wait, Inside, Read, Line, Pins, Power, Write}
+use Rattle.command.specs.declared.Call.{Call}
+use Rattle.command.specs.declared.Call.TheVariants.{Wait, Inside, Read, Line, Pins, Power, Write}
 use Rattle.port.specs.Clocked.{refresh_sync_clock, sync_edge}
 use Rattle.port.specs.Fields.{with_brr, with_input, with_input_clock, with_ircr, with_rx, with_scr, with_semr, with_smr, with_spcr}
 use Rattle.port.specs.Half.{half_step, halves, process_basic, uncounted}
@@ -164,7 +164,7 @@ level_pins c b p =
 
 -- ---- every call
 -- the power bit of the mask m after a call
-abbrev bit_after : ℕ → Command → Answer → Bool → Bool
+abbrev bit_after : ℕ → Call → Answer → Bool → Bool
 bit_after m (Power b) a x = cond (accepted a) (has b m) x
 bit_after m (Read y) a x = x
 bit_after m (Write y v) a x = x
@@ -173,15 +173,15 @@ bit_after m (Line b) a x = x
 bit_after m (Pins c b) a x = x
 bit_after m Inside a x = x
 
-abbrev outer_after : Command → Answer → Outer → Outer
+abbrev outer_after : Call → Answer → Outer → Outer
 outer_after c a o =
     record { input = line_after c a o.input; on = bit_after 1 c a o.on; main = bit_after 2 c a o.main; sub = bit_after 4 c a o.sub; resets = bit_after 8 c a o.resets }
 
-module _ (c : Command) (p : Port) where
+module _ (c : Call) (p : Port) where
   Is : Answer → Type 0
   Is r = outer (after r) ≡ outer_after c r (outer p)
 
-called_outer : (c : Command) (p : Port) → Is c p (called c p)
+called_outer : (c : Call) (p : Port) → Is c p (called c p)
 unfolding called Is
 called_outer (Read a) p =
     by_cond (Is (Read a) p) (leb a 65535) _ (refuse 2 p) (λ e. by_cond (Is (Read a) p) (handles a) _ (refuse 1 p) (λ g. level_read (outer p) a p refl) (λ g. refl)) (λ e. refl)
@@ -207,7 +207,7 @@ called_outer (Power b) p =
     (λ e. level_power (has b 1) (has b 2) (has b 4) (has b 8) p) (λ e. refl)
 called_outer Inside p = refl
 
-refused_outer : (c : Command) (n : ℕ) (p : Port) → Is c p (refuse n p)
+refused_outer : (c : Call) (n : ℕ) (p : Port) → Is c p (refuse n p)
 unfolding Is
 refused_outer (Read a) n p = refl
 refused_outer (Write a v) n p = refl
@@ -217,7 +217,7 @@ refused_outer (Pins c b) n p = refl
 refused_outer (Power b) n p = refl
 refused_outer Inside n p = refl
 
-direct_outer : (c : Command) (p : Port) → outer (after (direct c p)) ≡ outer_after c (direct c p) (outer p)
+direct_outer : (c : Call) (p : Port) → outer (after (direct c p)) ≡ outer_after c (direct c p) (outer p)
 unfolding direct Is
 direct_outer c p = by_cond (Is c p) (valid p) (called c p) (refuse 8 p) (λ e. called_outer c p) (λ e. refused_outer c 8 p)
 
@@ -229,10 +229,10 @@ pub lined_start : Lined start
 unfolding fresh
 lined_start = refl
 
-pub lined_after : (c : Command) (s : Wired) → Lined s → Lined (wired_after c (direct c s.port) s)
+pub lined_after : (c : Call) (s : Wired) → Lined s → Lined (wired_after c (direct c s.port) s)
 lined_after c s e = ap (λ (o : Outer). o.input) (direct_outer c s.port) ∙ ap (line_after c (direct c s.port)) e
 
-pub lined_run : (cs : List Command) (s : Wired) → Lined s → Lined (run_wired direct s cs)
+pub lined_run : (cs : List Call) (s : Wired) → Lined s → Lined (run_wired direct s cs)
 unfolding run_wired
 lined_run [] s e = e
 lined_run (c ∷ cs) s e = lined_run cs (wired_after c (direct c s.port) s) (lined_after c s e)
@@ -241,7 +241,7 @@ lined_run (c ∷ cs) s e = lined_run cs (wired_after c (direct c s.port) s) (lin
 abbrev bits_of : ℕ → Outer → Outer
 bits_of n o = powered o (has n 1) (has n 2) (has n 4) (has n 8)
 
-bit_is : (m n : ℕ) (c : Command) (a : Answer) → bit_after m c a (has n m) ≡ has (power_after c a n) m
+bit_is : (m n : ℕ) (c : Call) (a : Answer) → bit_after m c a (has n m) ≡ has (power_after c a n) m
 bit_is m n (Power b) (done v q) = refl
 bit_is m n (Power b) (refused k offset q) = refl
 bit_is m n (Read x) a = refl
@@ -255,7 +255,7 @@ bit_is m n Inside a = refl
 Commanded : ℕ → Port → Type 0
 Commanded n p = outer p ≡ bits_of n (outer p)
 
-commanded_call : (n : ℕ) (c : Command) (p : Port) → Commanded n p → Commanded (power_after c (direct c p) n) (after (direct c p))
+commanded_call : (n : ℕ) (c : Call) (p : Port) → Commanded n p → Commanded (power_after c (direct c p) n) (after (direct c p))
 unfolding Commanded
 commanded_call n c p e = λ i.
     record {
@@ -266,7 +266,7 @@ commanded_call n c p e = λ i.
       resets = (ap (λ (o : Outer). o.resets) (direct_outer c p) ∙ ap (λ (o : Outer). bit_after 8 c (direct c p) o.resets) e ∙ bit_is 8 n c (direct c p)) i;
     }
 
-commanded_run : (cs : List Command) (n : ℕ) (s : Wired) → Commanded n s.port → Commanded (power_commanded direct n s cs) (run_wired direct s cs).port
+commanded_run : (cs : List Call) (n : ℕ) (s : Wired) → Commanded n s.port → Commanded (power_commanded direct n s cs) (run_wired direct s cs).port
 unfolding run_wired power_commanded
 commanded_run [] n s e = e
 commanded_run (c ∷ cs) n s e = commanded_run cs (power_after c (direct c s.port) n) (wired_after c (direct c s.port) s) (commanded_call n c s.port e)

@@ -7,8 +7,8 @@ use mathlib.Core.List.{List, [], ◌∷◌, ◌++◌}
 use Rattle.port.specs.declared.Port.{Port}
 use Rattle.frame.specs.Frame.{bits, format, one_if, word}
 use Rattle.port.specs.Calls.{Answer, direct}
-use Rattle.command.specs.declared.Command.{Command}
-use Rattle.command.specs.declared.Command.TheVariants.{Wait, Read, Line, Power, Write}
+use Rattle.command.specs.declared.Call.{Call}
+use Rattle.command.specs.declared.Call.TheVariants.{Wait, Read, Line, Power, Write}
 use Rattle.recovery.specs.Line.{LineItem, signal, spread, stop_cells_begun, stop_cells_passed, tally_after, values, word_of}
 use Rattle.recovery.specs.NearMisses.{NearMisses, counts_none, counts_two, deaf, halves_by, nothing_at_a_half, nothing_untested, rdr_never_varies, repeat, tally_stands, two_completions}
 use Rattle.recovery.specs.Recovery.{Recovers, levels, run_wired, trace, wait_trace}
@@ -16,32 +16,32 @@ use Rattle.recovery.proofs.Compute.{count_halves, all_may, all_stand, are_separa
 use Rattle.recovery.proofs.Computes.{computes}
 
 -- the cells of a word, 16 halves each, in waits of eight
-send : List Bool → List Command
+send : List Bool → List Call
 send [] = []
 send (b ∷ bs) = Line (one_if b) ∷ (Wait 8 ∷ Wait 8 ∷ send bs)
 
 -- n halves one by one, RDR read after each
-by_halves : ℕ → List Command
+by_halves : ℕ → List Call
 by_halves zero = []
 by_halves (suc n) = Wait 1 ∷ Read 0xff9d ∷ by_halves n
 
 -- module and main clock on, five data bits, a cell of 16 halves, RE: so the list is short
-history : List Command
+history : List Call
 history = Power 3 ∷ Write 0xff98 4 ∷ Write 0xffa6 8 ∷ Write 0xff9a 0x10 ∷ []
 
 -- 384 halves
-rest : List Command
+rest : List Call
 rest = Wait 384 ∷ []
 
 -- the word of 0x15, RDR read after each half of its stop cell
-words : List Command
+words : List Call
 words = send (bits 6 (word (format 4 8) 0x15)) ++ (Line 1 ∷ by_halves 16)
 
 items : List LineItem
 items = word_of 0x15 ∷ []
 
 -- the test on this list, with all that it takes to compute it
-computed : (Command → Port → Answer) → Bool
+computed : (Call → Port → Answer) → Bool
 unfolding computes spread signal values stop_cells_begun stop_cells_passed tally_after levels run_wired wait_trace trace is_prefix may_rest may_read was_read are_separated all_may count_halves history_meets rest_meets words_meet asked_of says stands all_stand none_by_8 breaks repeat halves_by deaf rdr_never_varies tally_stands send by_halves history rest words items
 computed port = breaks port 384 history rest words items
 

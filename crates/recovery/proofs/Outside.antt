@@ -12,7 +12,7 @@ use Rattle.frame.specs.declared.Format.{Format}
 use Rattle.port.specs.declared.Port.{Port}
 use Rattle.frame.specs.Frame.{one_if, stop}
 use Rattle.port.specs.Baud.{format_of}
-use Rattle.command.specs.declared.Command.{Command}
+use Rattle.command.specs.declared.Call.{Call}
 use Rattle.port.specs.Calls.{direct}
 use Rattle.shift.specs.Receiver.{rx_clocked}
 use Rattle.recovery.specs.Corollaries.{Demand, halves_in}
@@ -225,7 +225,7 @@ module _ (first : Port) (items : List LineItem) (all : List Moment) (rd : ReadBe
         (read_at past ms m e, subst (λ (k : Count). separated k ms) (counts_append past (m ∷ []) none_yet) (separates (past ++ (m ∷ [])) ms (e ∙ sym (append_assoc past (m ∷ []) ms))))
 
 -- ---- of the real port
-words_outside : (history rest words : List Command) (items : List LineItem) → HistoryEnd (run_wired direct start history) → Rest direct (run_wired direct start history) rest
+words_outside : (history rest words : List Call) (items : List LineItem) → HistoryEnd (run_wired direct start history) → Rest direct (run_wired direct start history) rest
     → WordsOutside direct (rest_end direct history rest) words items → Words direct (rest_end direct history rest) words items
 words_outside history rest words items he rs ws =
     let h : Wired = run_wired direct start history in
@@ -239,7 +239,7 @@ words_outside history rest words items he rs ws =
     (record { past = []; split = refl; count = refl; held = tt }) in
     record { calls = ws.calls; line = ws.line; reads = subst (separated none_yet) (sym same) (separates r.port items all rd t [] all refl) }
 
-rest_outside : (history rest : List Command) → RestOutside direct history rest → Rest direct (run_wired direct start history) rest
+rest_outside : (history rest : List Call) → RestOutside direct history rest → Rest direct (run_wired direct start history) rest
 rest_outside history rest rs =
     record {
       line = rs.line;

@@ -9,8 +9,8 @@ use Rattle.port.specs.declared.Port.{Port}
 use Rattle.frame.specs.Frame.{differ, has}
 use Rattle.port.specs.Baud.{edge_counted, edge_counts, external, format_of, internal}
 use Rattle.port.specs.Calls.{Answer, after, bit, called}
-use Rattle.command.specs.declared.Command.{Command}
-use Rattle.command.specs.declared.Command.TheVariants.{Wait, Inside, Read, Line, Pins, Power, Write}
+use Rattle.command.specs.declared.Call.{Call}
+use Rattle.command.specs.declared.Call.TheVariants.{Wait, Inside, Read, Line, Pins, Power, Write}
 use Rattle.port.specs.Clocked.{refresh_sync_clock, sync_edge}
 use Rattle.port.specs.Fields.{with_input, with_input_clock}
 use Rattle.port.specs.Half.{half_step, halves, process_basic, uncounted}
@@ -145,7 +145,7 @@ pub near_no_halves : (n : ℕ) (p : Port) → Near p → Near (uncounted n p)
 near_no_halves zero p t = t
 near_no_halves (suc n) p t = t
 
-pub near_called : (c : Command) (p : Port) → Near p → Near (after (called c p))
+pub near_called : (c : Call) (p : Port) → Near p → Near (after (called c p))
 unfolding called
 near_called (Read a) p t = both_arms NearAfter (leb a 65535) _ _ (both_arms NearAfter (handles a) _ _ (near_read a p t) t) t
 near_called (Write a v) p t =

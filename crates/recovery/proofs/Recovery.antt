@@ -7,7 +7,7 @@ use mathlib.Core.List.{List, ◌++◌}
 use lib.ListN.{length}
 use Rattle.frame.specs.Frame.{differ, has}
 use Rattle.port.specs.Baud.{format_of}
-use Rattle.command.specs.declared.Command.{Command}
+use Rattle.command.specs.declared.Call.{Call}
 use Rattle.port.specs.Calls.{direct}
 use Rattle.port_laws.proofs.Laws.{fresh_passes}
 use Rattle.port_laws.specs.Laws.{FreshPasses}
@@ -24,7 +24,7 @@ pub grown_start : Grown start
 unfolding FreshPasses
 grown_start = record { lined = lined_start; tested = fresh_passes; near = near_fresh }
 
-pub asked : (h : Wired) (rest words : List Command) (items : List LineItem) → Grown h → HistoryEnd h → Rest direct h rest
+pub asked : (h : Wired) (rest words : List Call) (items : List LineItem) → Grown h → HistoryEnd h → Rest direct h rest
     → each direct (λ c a s. allowed_in_words c a) (run_wired direct h rest) words → prefix (levels (trace direct (run_wired direct h rest) words)) (signal (format_of (run_wired direct h rest).port) items)
     → Asked h.port (run_wired direct h rest).port rest words items
 asked h rest words items g he rs calls line =

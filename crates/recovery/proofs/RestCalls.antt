@@ -11,8 +11,8 @@ use lib.Bits.{bit_and}
 use lib.ListN.{length}
 use borrow.Author.Tests.{eqb-true}
 use Rattle.port.specs.Calls.{run as port_run, Answer, after, bit, called, direct, done, refuse}
-use Rattle.command.specs.declared.Command.{Command}
-use Rattle.command.specs.declared.Command.TheVariants.{Wait, Inside, Read, Line, Pins, Power, Write}
+use Rattle.command.specs.declared.Call.{Call}
+use Rattle.command.specs.declared.Call.TheVariants.{Wait, Inside, Read, Line, Pins, Power, Write}
 use Rattle.port.specs.declared.Port.{Port}
 use Rattle.shift.specs.declared.Rx.{Rx}
 use Rattle.frame.proofs.Truth.{and_right}
@@ -223,13 +223,13 @@ half_count zero p = refl
 half_count (suc n) p = ap suc (half_count n (half_step p))
 
 module _ (left : ℕ) (p : Port) (r : Resting left p) where
-  abbrev After : Command → Answer → Type 0
+  abbrev After : Call → Answer → Type 0
   After x a = rests x a (after a) → Resting (left - length (levels (moments_of x a p))) (after a)
 
   keep : (q : Port) → Resting left q → Resting (left - 0) q
   keep q s = let e : left - 0 ≡ left = omega arith in rw e s
 
-  after_refused : (x : Command) (n : ℕ) → After x (refuse n p)
+  after_refused : (x : Call) (n : ℕ) → After x (refuse n p)
   unfolding levels
   after_refused x n g = rw (none_refused x n 0 p p) (keep p r)
 
@@ -242,7 +242,7 @@ module _ (left : ℕ) (p : Port) (r : Resting left p) where
   after_halves n true e = rw (half_count n p) (resting_halves n left p r)
   after_halves n false e = absurd (false≢true e)
 
-  after_call : (x : Command) → After x (called x p)
+  after_call : (x : Call) → After x (called x p)
   unfolding called levels
   after_call (Read a) =
       by_cond (After (Read a)) (leb a 65535) _ (refuse 2 p)
@@ -271,7 +271,7 @@ module _ (left : ℕ) (p : Port) (r : Resting left p) where
       by_cond (After (Power b)) (leb b 15) (done 0 (set_power (has b 1) (has b 2) (has b 4) (has b 8) p)) (refuse 2 p) (λ e k. absurd (true≢false k.0)) (λ e. after_refused (Power b) 2)
   after_call Inside = λ k. keep (inside p) (resting_same left p (inside p) refl refl r)
 
-  after_direct : (x : Command) → After x (direct x p)
+  after_direct : (x : Call) → After x (direct x p)
   unfolding direct
   after_direct x = by_cond (After x) (valid p) (called x p) (refuse 8 p) (λ e. after_call x) (λ e. after_refused x 8)
 
@@ -286,11 +286,11 @@ levels_append (m ∷ xs) ys = go m.event (levels_append xs ys)
     go (rdr_read a) q = q
     go other q = q
 
-pub near_direct : (c : Command) (p : Port) → Near p → Near (after (direct c p))
+pub near_direct : (c : Call) (p : Port) → Near p → Near (after (direct c p))
 unfolding direct
 near_direct c p t = by_cond (λ (a : Answer). Near (after a)) (valid p) (called c p) (refuse 8 p) (λ e. near_called c p t) (λ e. t)
 
-rest_run : (cs : List Command) (left : ℕ) (p : Port) → Resting left p → each_call rests p cs → Resting (left - length (levels (moments p cs))) (port_run p cs)
+rest_run : (cs : List Call) (left : ℕ) (p : Port) → Resting left p → each_call rests p cs → Resting (left - length (levels (moments p cs))) (port_run p cs)
 unfolding port_run moments levels
 rest_run [] left p r q = let e : left - 0 ≡ left = omega arith in rw e r
 rest_run (c ∷ cs) left p r q =
@@ -319,7 +319,7 @@ over : (k : ℕ) → 384 ≤ k → 384 - k ≡ 0
 over k h = omega arith
 
 -- what is asked of the port h at history's end, of the rest, which leads to the port r, and of the words
-pub record Asked (h r : Port) (rest words : List Command) (items : List LineItem) : Type 0 where
+pub record Asked (h r : Port) (rest words : List Call) (items : List LineItem) : Type 0 where
   pub re : has h.scr 0x10 ≡ true
   pub start_stop : has h.smr 0x80 ≡ false
   pub clock : internal h ≡ true
@@ -332,7 +332,7 @@ pub record Asked (h r : Port) (rest words : List Command) (items : List LineItem
   pub reading : each_call (λ c a q. allowed_in_words c a) r words
   pub signals : prefix (levels (moments r words)) (signal (format_of r) items)
 
-module _ (h r : Port) (rest words : List Command) (items : List LineItem) (t : Near h) (a : Asked h r rest words items) where
+module _ (h r : Port) (rest words : List Call) (items : List LineItem) (t : Near h) (a : Asked h r rest words items) where
   begin : Resting 384 h
   unfolding format
   begin = record { plain = a.start_stop; on = a.re; runs = a.clock; line = a.line; calm = fits_calm t }

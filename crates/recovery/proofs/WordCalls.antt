@@ -12,8 +12,8 @@ use Rattle.port.specs.declared.Port.{Port}
 use Rattle.frame.specs.Frame.{differ, has}
 use Rattle.port.specs.Baud.{edge_counted, edge_counts, external, format_of, internal, running}
 use Rattle.port.specs.Calls.{Answer, after, bit, called, direct, done, refuse}
-use Rattle.command.specs.declared.Command.{Command}
-use Rattle.command.specs.declared.Command.TheVariants.{Wait, Inside, Read, Line, Pins, Power, Write}
+use Rattle.command.specs.declared.Call.{Call}
+use Rattle.command.specs.declared.Call.TheVariants.{Wait, Inside, Read, Line, Pins, Power, Write}
 use Rattle.port.specs.Clocked.{refresh_sync_clock, sync_edge}
 use Rattle.port.specs.Fields.{with_input, with_input_clock, with_seen}
 use Rattle.port.specs.Half.{half_step, halves, inside, process_basic, uncounted}
@@ -155,13 +155,13 @@ module _ (start : Port) (items : List LineItem) (plain : (format_of start).synch
 
     -- ---- one call, with what follows it
     module _ (p : Port) (c : Count) (ms : List Moment) (t : Near p) where
-      abbrev Along : Command → Answer → Type 0
+      abbrev Along : Call → Answer → Type 0
       Along x r =
           Here c (levels (moments_of x r p ++ ms)) p → Apart c (moments_of x r p ++ ms) → allowed_in_words x r
           → ((c : Count) → Near (after r) → Here c (levels ms) (after r) → Apart c ms → throughout start items c ms)
           → throughout start items c (moments_of x r p ++ ms)
 
-      along_refused : (x : Command) (n : ℕ) → Along x (refuse n p)
+      along_refused : (x : Call) (n : ℕ) → Along x (refuse n p)
       along_refused x n = rw (none_refused x n 0 p p) (λ w s q k. k c t w s)
 
       -- a call that is no moment of the receiver's
@@ -217,7 +217,7 @@ module _ (start : Port) (items : List LineItem) (plain : (format_of start).synch
           by_pins (Where (format_of start) items start.received c (levels ms)) d b p w (line_here b w)
           (where_stands (format_of start) items start.received plain long st c (levels ms) (view (receive_input b p)) (line_here b w)).runs
 
-      along : (x : Command) → Along x (called x p)
+      along : (x : Call) → Along x (called x p)
       unfolding called levels
       along (Read a) =
           by_cond (Along (Read a)) (leb a 65535) _ (refuse 2 p)
@@ -242,11 +242,11 @@ module _ (start : Port) (items : List LineItem) (plain : (format_of start).synch
           by_cond (Along (Power b)) (leb b 15) (done 0 (set_power (has b 1) (has b 2) (has b 4) (has b 8) p)) (refuse 2 p) (λ e w s q k. absurd (true≢false q)) (λ e. along_refused (Power b) 2)
       along Inside = λ w s q k. along_other (inside p) t w s k
 
-      along_direct : (x : Command) → Along x (direct x p)
+      along_direct : (x : Call) → Along x (direct x p)
       unfolding direct
       along_direct x = by_cond (Along x) (valid p) (called x p) (refuse 8 p) (λ e. along x) (λ e. along_refused x 8)
 
-    pub words_along : (cs : List Command) (p : Port) (c : Count) → Near p → Here c (levels (moments p cs)) p → Apart c (moments p cs) → each_call (λ c a q. allowed_in_words c a) p cs
+    pub words_along : (cs : List Call) (p : Port) (c : Count) → Near p → Here c (levels (moments p cs)) p → Apart c (moments p cs) → each_call (λ c a q. allowed_in_words c a) p cs
         → throughout start items c (moments p cs)
     unfolding moments
     words_along [] p c t w s q = tt

@@ -7,7 +7,7 @@ use Rattle.port.specs.declared.Port.{Port}
 use Rattle.frame.specs.Frame.{has, one_if, stop}
 use Rattle.port.specs.Baud.{format_of}
 use Rattle.port.specs.Calls.{Answer}
-use Rattle.command.specs.declared.Command.{Command}
+use Rattle.command.specs.declared.Call.{Call}
 use Rattle.recovery.specs.Line.{Event, LineItem, half_passes, mark, other, rdr_read, span_of, word_of, words_in}
 use Rattle.recovery.specs.Recovery.{HistoryEnd, Moment, Rest, Words, completed, levels, rest_end, run_wired, start, trace}
 
@@ -103,24 +103,24 @@ abbrev pub last_port : Port → List Moment → Port
 last_port p [] = p
 last_port p (m ∷ ms) = last_port m.port ms
 
-module _ (direct : Command → Port → Answer) where
+module _ (direct : Call → Port → Answer) where
   -- what demand 3 says of a list
   unfoldable pub Demand : Type 0
   Demand =
-      (history rest words : List Command) (items : List LineItem)
+      (history rest words : List Call) (items : List LineItem)
       → HistoryEnd (run_wired direct start history) → Rest direct (run_wired direct start history) rest → Words direct (rest_end direct history rest) words items
       → Sentences (rest_end direct history rest).port items (trace direct (rest_end direct history rest) words)
 
   -- history, rest and words are one list of calls
   unfoldable pub OneList : Type 0
-  OneList = (history rest words : List Command) → run_wired direct start (history ++ (rest ++ words)) ≡ run_wired direct (rest_end direct history rest) words
+  OneList = (history rest words : List Call) → run_wired direct start (history ++ (rest ++ words)) ≡ run_wired direct (rest_end direct history rest) words
 
   -- a trace ends where the calls do
   unfoldable pub EndsThere : Type 0
   EndsThere =
-      (history calls : List Command)
+      (history calls : List Call)
       → last_port (run_wired direct start history).port (trace direct (run_wired direct start history) calls) ≡ (run_wired direct (run_wired direct start history) calls).port
 
   -- the line that the callers set is the line that the port has
   unfoldable pub HearsTheLine : Type 0
-  HearsTheLine = (calls : List Command) → (run_wired direct start calls).port.input ≡ (run_wired direct start calls).line
+  HearsTheLine = (calls : List Call) → (run_wired direct start calls).port.input ≡ (run_wired direct start calls).line

@@ -4,7 +4,7 @@
 -- Assumes nothing.
 use Rattle.std.specs.Prelude.{◌≡◌, List, [], ◌∷◌, ◌++◌}
 use Rattle.port.specs.declared.Port.{Port}
-use Rattle.command.specs.declared.Command.{Command}
+use Rattle.command.specs.declared.Call.{Call}
 use Rattle.port.specs.Calls.{direct, run as port_run}
 use Rattle.port.specs.Power.{fresh}
 use Rattle.recovery.specs.Corollaries.{Sentences}
@@ -18,12 +18,12 @@ state_after does s [] = s
 state_after does s (c ∷ cs) = state_after does (does c s) cs
 
 -- the calls that they make, in order
-unfoldable pub calls_made : {S C : Type 0} → (C → S → S) → (C → S → List Command) → S → List C → List Command
+unfoldable pub calls_made : {S C : Type 0} → (C → S → S) → (C → S → List Call) → S → List C → List Call
 calls_made does calls s [] = []
 calls_made does calls s (c ∷ cs) = calls c s ++ calls_made does calls (does c s) cs
 
 -- `first` is its first state, and `holds s p` says that its state s holds the port p
-module _ {S C : Type 0} (does : C → S → S) (calls : C → S → List Command) (first : S) (holds : S → Port → Type 0) where
+module _ {S C : Type 0} (does : C → S → S) (calls : C → S → List Call) (first : S) (holds : S → Port → Type 0) where
   -- what a layer has to show: its first state holds the fresh port; and where a state holds a port, the state after a command holds the port that the
   -- command's calls leave of it
   pub record Layer : Type 0 where
@@ -32,7 +32,7 @@ module _ {S C : Type 0} (does : C → S → S) (calls : C → S → List Command
 
   -- what then holds of commands whose calls are history, rest and words: what the theorem says of these calls, the demand's sentences, and that the state
   -- after the commands holds the port that both are about
-  pub record Carried (cs : List C) (history rest words : List Command) (line : List LineItem) : Type 0 where
+  pub record Carried (cs : List C) (history rest words : List Call) (line : List LineItem) : Type 0 where
     pub recovered : Recovered direct history rest words line
     pub sentences : Sentences (rest_end direct history rest).port line (trace direct (rest_end direct history rest) words)
     pub held : holds (state_after does first cs) (run_wired direct (rest_end direct history rest) words).port
@@ -40,6 +40,6 @@ module _ {S C : Type 0} (does : C → S → S) (calls : C → S → List Command
   -- where history and rest end is free: it may be in the midst of one command's calls
   unfoldable pub CarriesOver : Type 0
   CarriesOver =
-      (cs : List C) (history rest words : List Command) (line : List LineItem) → calls_made does calls first cs ≡ history ++ (rest ++ words)
+      (cs : List C) (history rest words : List Call) (line : List LineItem) → calls_made does calls first cs ≡ history ++ (rest ++ words)
       → HistoryEnd (run_wired direct start history) → Rest direct (run_wired direct start history) rest → Words direct (rest_end direct history rest) words line
       → Carried cs history rest words line

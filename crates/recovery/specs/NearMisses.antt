@@ -5,8 +5,8 @@ use Rattle.port.specs.declared.Port.{Port}
 use Rattle.frame.specs.Frame.{one_if}
 use Rattle.port.specs.Baud.{counted, internal}
 use Rattle.port.specs.Calls.{Answer, called, direct, done, refused}
-use Rattle.command.specs.declared.Command.{Command}
-use Rattle.command.specs.declared.Command.TheVariants.{Wait, Inside, Read, Line, Pins, Power, Write}
+use Rattle.command.specs.declared.Call.{Call}
+use Rattle.command.specs.declared.Call.TheVariants.{Wait, Inside, Read, Line, Pins, Power, Write}
 use Rattle.port.specs.Fields.{with_rdr, with_received, with_rx}
 use Rattle.port.specs.Half.{half_step}
 use Rattle.recovery.specs.Recovery.{Recovers, completes}
@@ -23,7 +23,7 @@ waits_by step n (done v q) p = done v (cond (internal p) (repeat step n p) q)
 waits_by step n (refused k offset q) p = refused k offset q
 
 -- a port with `step` for what it does at a half
-unfoldable pub halves_by : (Command → Port → Answer) → (Port → Port) → Command → Port → Answer
+unfoldable pub halves_by : (Call → Port → Answer) → (Port → Port) → Call → Port → Answer
 halves_by port step (Wait n) p = waits_by step n (port (Wait n) p) p
 halves_by port step (Read a) p = port (Read a) p
 halves_by port step (Write a v) p = port (Write a v) p
@@ -33,17 +33,17 @@ halves_by port step (Power b) p = port (Power b) p
 halves_by port step Inside p = port Inside p
 
 -- it does nothing at a half: it only counts. With the field test (test 8), and without
-abbrev pub nothing_at_a_half : Command → Port → Answer
+abbrev pub nothing_at_a_half : Call → Port → Answer
 nothing_at_a_half = halves_by direct counted
 
-abbrev pub nothing_untested : Command → Port → Answer
+abbrev pub nothing_untested : Call → Port → Answer
 nothing_untested = halves_by called counted
 
 -- every half counts two, or none
-abbrev pub counts_two : Command → Port → Answer
+abbrev pub counts_two : Call → Port → Answer
 counts_two = halves_by direct (λ p. half_step (half_step p))
 
-abbrev pub counts_none : Command → Port → Answer
+abbrev pub counts_none : Call → Port → Answer
 counts_none = halves_by direct (λ p. p)
 
 -- two completions for one word: the first, which falls on a half of low phase, leaves the word in the receiver for one half more
@@ -55,7 +55,7 @@ one_half_more (Some r) h =
 abbrev pub completes_twice : Port → Port
 completes_twice p = cond (completes p && not p.high) (with_rx (half_step p) (one_half_more p.rx (suc p.half))) (half_step p)
 
-abbrev pub two_completions : Command → Port → Answer
+abbrev pub two_completions : Call → Port → Answer
 two_completions = halves_by direct completes_twice
 
 -- ---- ports with another answer
@@ -64,7 +64,7 @@ answers_by f (done v q) = done v (f q)
 answers_by f (refused n offset q) = refused n offset q
 
 -- deaf: kinds 4 and 5 leave the line as it was
-unfoldable pub deaf : Command → Port → Answer
+unfoldable pub deaf : Call → Port → Answer
 deaf (Line b) p = direct (Line (one_if p.input)) p
 deaf (Pins c b) p = direct (Pins c (one_if p.input)) p
 deaf (Read a) p = direct (Read a) p
@@ -74,10 +74,10 @@ deaf (Power b) p = direct (Power b) p
 deaf Inside p = direct Inside p
 
 -- RDR never varies; the tally of words received stands
-unfoldable pub rdr_never_varies : Command → Port → Answer
+unfoldable pub rdr_never_varies : Call → Port → Answer
 rdr_never_varies c p = answers_by (λ q. with_rdr q p.rdr) (direct c p)
 
-unfoldable pub tally_stands : Command → Port → Answer
+unfoldable pub tally_stands : Call → Port → Answer
 tally_stands c p = answers_by (λ q. with_received q p.received) (direct c p)
 
 -- ---- the claim is false of each

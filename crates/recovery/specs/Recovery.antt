@@ -13,8 +13,8 @@ use Rattle.port.specs.declared.Port.{Port}
 use Rattle.frame.specs.Frame.{differ, has, one_if, stop}
 use Rattle.port.specs.Baud.{format_of, internal}
 use Rattle.port.specs.Calls.{Answer, after, bit, done, refused}
-use Rattle.command.specs.declared.Command.{Command}
-use Rattle.command.specs.declared.Command.TheVariants.{Wait, Inside, Read, Line, Pins, Power, Write}
+use Rattle.command.specs.declared.Call.{Call}
+use Rattle.command.specs.declared.Call.TheVariants.{Wait, Inside, Read, Line, Pins, Power, Write}
 use Rattle.shift.specs.Receiver.{rx_clocked, completing_on}
 use Rattle.port.specs.Power.{fresh}
 use Rattle.recovery.specs.Line.{Count, Event, LineItem, count_after, half_passes, none_yet, other, prefix, rdr_read, signal, span_of, stop_cells_begun, stop_cells_passed, tally_after, values, word_of, words_in}
@@ -37,7 +37,7 @@ abbrev pub by_8 : Answer → Bool
 by_8 (done v q) = false
 by_8 (refused n offset q) = eqb n 8
 
-abbrev pub line_after : Command → Answer → Bool → Bool
+abbrev pub line_after : Call → Answer → Bool → Bool
 line_after (Line b) a l = cond (accepted a) (bit b) l
 line_after (Pins c b) a l = cond (accepted a) (bit b) l
 line_after (Read x) a l = l
@@ -47,7 +47,7 @@ line_after (Power b) a l = l
 line_after Inside a l = l
 
 -- "each call gets the state that the one before returned"
-abbrev pub wired_after : Command → Answer → Wired → Wired
+abbrev pub wired_after : Call → Answer → Wired → Wired
 wired_after c a s = record { port = after a; line = line_after c a s.line }
 
 -- "Mark is line 1, or line 0 with SPCR bit 0 set"
@@ -103,7 +103,7 @@ separated c (m ∷ ms) = read_before m.event c × separated (count_after c m.eve
 
 -- ---- what is asked of a call, by its answer: of a refused call nothing ("a refused call .. passes no half and may stand anywhere")
 -- Rest: "no accepted power command", "no register but SSR and RDR written". Stronger than document 01: the clock pin may change
-abbrev pub allowed_in_rest : Command → Answer → Type 0
+abbrev pub allowed_in_rest : Call → Answer → Type 0
 allowed_in_rest (Write x v) a = accepted a ≡ true → (eqb x 0xff9c || eqb x 0xff9d) ≡ true
 allowed_in_rest (Power b) a = accepted a ≡ false
 allowed_in_rest (Read x) a = Unit {0}
@@ -114,7 +114,7 @@ allowed_in_rest Inside a = Unit {0}
 
 -- Words: "no accepted power command", "no register is written". Stronger than document 01: the clock pin may change; and the line may change at any
 -- time and more than once ("only where a cell or mark begins, once at most" is not asked), since only the levels that halves see count
-abbrev pub allowed_in_words : Command → Answer → Type 0
+abbrev pub allowed_in_words : Call → Answer → Type 0
 allowed_in_words (Write x v) a = accepted a ≡ false
 allowed_in_words (Power b) a = accepted a ≡ false
 allowed_in_words (Read x) a = Unit {0}
@@ -167,15 +167,15 @@ pub record HistoryEnd (s : Wired) : Type 0 where
   pub clock : internal s.port ≡ true
 
 -- ---- lists of direct calls
-module _ (direct : Command → Port → Answer) where
-  unfoldable pub run_wired : Wired → List Command → Wired
+module _ (direct : Call → Port → Answer) where
+  unfoldable pub run_wired : Wired → List Call → Wired
   run_wired s [] = s
   run_wired s (c ∷ cs) =
       let a = direct c s.port in
       run_wired (wired_after c a s) cs
 
   -- every call of a list, with its answer, and the port and line after it
-  abbrev pub each : (Command → Answer → Wired → Type 0) → Wired → List Command → Type 0
+  abbrev pub each : (Call → Answer → Wired → Type 0) → Wired → List Call → Type 0
   each P s [] = Unit {0}
   each P s (c ∷ cs) =
       let a = direct c s.port in
@@ -197,7 +197,7 @@ module _ (direct : Command → Port → Answer) where
   wait_moments n (done v q) s = cond (internal s.port) (wait_trace n 0 (line_at_mark s) s.port s.port) (one_moment (λ v. other) (done v q))
   wait_moments n (refused k offset q) s = []
 
-  abbrev pub call_trace : Command → Answer → Wired → List Moment
+  abbrev pub call_trace : Call → Answer → Wired → List Moment
   call_trace (Wait n) a s = wait_moments n a s
   call_trace (Read x) a s = one_moment (λ v. cond (eqb x 0xff9d) (rdr_read v) other) a
   call_trace (Write x v) a s = one_moment (λ v. other) a
@@ -207,7 +207,7 @@ module _ (direct : Command → Port → Answer) where
   call_trace Inside a s = one_moment (λ v. other) a
 
   -- the moments of a list of calls
-  unfoldable pub trace : Wired → List Command → List Moment
+  unfoldable pub trace : Wired → List Call → List Moment
   trace s [] = []
   trace s (c ∷ cs) =
       let a = direct c s.port in
@@ -215,7 +215,7 @@ module _ (direct : Command → Port → Answer) where
 
   -- "Rest: at least 384 halves, the line at mark throughout, no register but SSR and RDR written. At its end SSR is without 0x78, and the receiver
   -- holds no word of clocked form at any position"
-  pub record Rest (s : Wired) (cs : List Command) : Type 0 where
+  pub record Rest (s : Wired) (cs : List Call) : Type 0 where
     pub line : line_at_mark s ≡ true
     pub calls : each (λ c a s. allowed_in_rest c a × (line_at_mark s ≡ true)) s cs
     pub long : 384 ≤ length (levels (trace s cs))
@@ -223,17 +223,17 @@ module _ (direct : Command → Port → Answer) where
     pub no_clocked_word : rx_clocked (run_wired s cs).port.rx ≡ false
 
   -- "Words: mark for any number of halves, and words, up to the list's end, which may cut a word", in the format of "the standing SMR and SEMR"
-  pub record Words (s : Wired) (cs : List Command) (items : List LineItem) : Type 0 where
+  pub record Words (s : Wired) (cs : List Call) (items : List LineItem) : Type 0 where
     pub calls : each (λ c a s. allowed_in_words c a) s cs
     pub line : prefix (levels (trace s cs)) (signal (format_of s.port) items)
     pub reads : separated none_yet (trace s cs)
 
   -- where history and rest lead
-  abbrev pub rest_end : List Command → List Command → Wired
+  abbrev pub rest_end : List Call → List Call → Wired
   rest_end history rest = run_wired (run_wired start history) rest
 
   -- what follows
-  pub record Recovered (history rest words : List Command) (items : List LineItem) : Type 0 where
+  pub record Recovered (history rest words : List Call) (items : List LineItem) : Type 0 where
     -- the port keeps passing its own field test: no call of the list is refused by 8
     pub tested : each (λ c a s. by_8 a ≡ false) start (history ++ (rest ++ words))
     -- before the first moment of the words all holds with nothing counted, and from there on it holds at each moment
@@ -245,5 +245,5 @@ module _ (direct : Command → Port → Answer) where
   -- THE CLAIM. "The list is history, rest and words", three lists of calls, refused ones anywhere, made one after the other on a fresh port
   unfoldable pub Recovers : Type 0
   Recovers =
-      (history rest words : List Command) (items : List LineItem)
+      (history rest words : List Call) (items : List LineItem)
       → HistoryEnd (run_wired start history) → Rest (run_wired start history) rest → Words (rest_end history rest) words items → Recovered history rest words items

@@ -1,6 +1,6 @@
 // Plays the scripts of a fixed list and prints what each leaves: the file `stdout` beside src/ has the answers of the Rust reference, so they are compared
 // with no Rust at hand. A case of standard input is the log's length and the script's, two bytes each, low byte first, and the script. Printed are the
-// lines of its run as the program prints them, and a sum over the whole log, which was filled with AA, and the 53 numbers of the last state.
+// lines of its run as the program prints them, and a sum over the whole log, which was filled with AA, and the 56 numbers of the last state.
 // A case whose log's length is FFFF is a write instead: a number or a command is written into a buffer, and printed are the writer's answer and the buffer's
 // sum; `stdout` has what a writer in Rust makes of it. oracle/README.md has the layout of both, and the command that made both files.
 #![tactic(auto)]
@@ -158,7 +158,7 @@ fn case_of(room: u16, s: &[u8]) -> Case<'_> {
             at,
             item: Item::Number(a),
         },
-        8 => Case::Fits {
+        10 => Case::Fits {
             length,
             at,
             count: usize::from_le_bytes(number(s, 2)),

@@ -4,18 +4,27 @@ use mathlib.Core.Path.{◌≡◌, refl, sym, ap, ◌∙◌}
 use mathlib.Core.List.{List, [], ◌∷◌, ◌++◌}
 use Prim.Native.Nat.{ℕ, zero, suc, ◌+◌, ◌-◌, ◌*◌, ◌/◌, ◌≤◌, ◌<◌}
 use native.Mathlib.Omega.{arith}
+use mathlib.Core.Bool.{false}
+use lib.Dec.{eqb}
 use lib.ListN.{length, drop, take, get_or, replicate, length-replicate}
 use lib.Seq.{length-take-le}
 use borrow.Author.Tests.{lt-ltb, le-ltb}
 use Rattle.std.specs.List.{flat_map}
 use Rattle.std.specs.Simd.{first_chunks}
 use Rattle.std.proofs.lemmas.List.{get_or-take, take_more, flat_map_more, drop-take}
-use Rattle.port.specs.declared.Port.{Port}
-use Rattle.port.specs.Power.{fresh}
+use Rattle.sci.specs.declared.Sci.{Sci}
+use Rattle.sci.specs.Calls.{fresh}
 use Rattle.machine.specs.Machine.{Run}
+use Rattle.script.specs.declared.Fault.TheVariants.{Short, Number, Kind, Operand}
+use Rattle.port.specs.declared.Refusal.TheVariants as port
+use Rattle.sci.specs.declared.Refusal.TheVariants.{OfPort, Total}
+use Rattle.player.specs.declared.Reason.{Reason}
+use Rattle.player.specs.declared.Reason.TheVariants.{Unread, Call, Full}
+use Rattle.player.specs.declared.Refused.{Refused}
 use Rattle.player.specs.declared.Played.{Played}
-use Rattle.player.specs.Play.{Progress, record_length, end_number, end_offset, ran, play}
+use Rattle.player.specs.Play.{Progress, record_length, reason_number, end_number, end_offset, ran, play}
 use Rattle.player.proofs.Used.{within}
+use Rattle.report.specs.Lines.{refused_line}
 use Rattle.report.specs.Printout.{first_line, record_lines, last_line, longest, log_length, too_long, printout}
 
 -- ---- the loop over records
@@ -51,13 +60,32 @@ lines_of (suc k) n log h =
     ∙ ap (λ (l : List ℕ). first_line log ++ l)
     (ap (λ (l : List ℕ). flat_map first_line (first_chunks record_length k l)) dropped ∙ lines_of k (n - record_length) (drop record_length log) (omega arith))
 
+-- ---- the last line
+
+-- no refusal is 0
+reason_some : (r : Reason) → eqb (reason_number r) 0 ≡ false
+reason_some (Unread Short) = refl
+reason_some (Unread Number) = refl
+reason_some (Unread Kind) = refl
+reason_some (Unread Operand) = refl
+reason_some (Call (OfPort port.Address)) = refl
+reason_some (Call (OfPort port.Operand)) = refl
+reason_some (Call (OfPort port.Infrared)) = refl
+reason_some (Call (OfPort port.Count)) = refl
+reason_some (Call (OfPort port.State)) = refl
+reason_some (Call Total) = refl
+reason_some Full = refl
+
+pub refusal_last : (r : Refused) (length : ℕ) → refused_line (reason_number r.reason) r.offset ≡ last_line (reason_number r.reason) r.offset length
+refusal_last r length = rw reason_some
+
 -- ---- the whole text
 
 pub too_long_text : (script : List ℕ) → longest < length script → too_long ≡ printout script
 unfolding printout
 too_long_text script h = rw (lt-ltb longest (length script) h)
 
-module _ (script log : List ℕ) (p : Port) (x : Played) (run : ran x log ≡ play p script (replicate log_length 0)) where
+module _ (script log : List ℕ) (p : Sci) (x : Played) (run : ran x log ≡ play p script (replicate log_length 0)) where
   pub used_within : x.used ≤ log_length
   used_within = let w = within p script (replicate log_length 0) in omega (arith, ap (λ (r : Run Progress). r.used) run, w.used, length-replicate {A = ℕ} log_length 0)
 

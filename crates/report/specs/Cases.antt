@@ -10,11 +10,13 @@ use Rattle.port.specs.Sender.{loaded, preloaded, begin, start_at, try_start, nex
 use Rattle.port.specs.Clocked.{refresh_sync_clock, take_bit, receive_bit, tail_ends, bit_out, shift_out, sync_edge}
 use Rattle.port.specs.Half.{process_basic, sync, clocked_edge, advance, half_step, halves}
 use Rattle.port.specs.Registers.{peek, read, write_scr, write_tdr, status_with, status_write, stored, connect, load_tail, after_store, write}
-use Rattle.port.specs.Power.{fresh, reset_registers, reset, set_power}
+use Rattle.port.specs.Power.{fresh as fresh_port, reset_registers, reset, set_power}
 use Rattle.port.specs.Input.{receive_input, external_edge, input_pins}
 use Rattle.pins.specs.Pins.{transmit_level, interrupt}
 use Rattle.port.specs.Valid.{registers_valid, valid}
-use Rattle.port.specs.Calls.{called, direct}
+use Rattle.port.specs.Calls.{called as port_called}
+use Rattle.sci.specs.Cycle.{cycles, halves_counted}
+use Rattle.sci.specs.Calls.{fresh, baud_valid, called, direct}
 use Rattle.machine.specs.Machine.{Run, play_items}
 use Rattle.player.specs.Play.{Progress, play}
 use Rattle.report.specs.Printout.{printout}
@@ -74,7 +76,7 @@ joined [] = 101 ∷ 110 ∷ 100 ∷ 32 ∷ 51 ∷ 53 ∷ 50 ∷ 10 ∷ []
 joined (l ∷ ls) = l ++ joined ls
 
 pub whole_run : printout input ≡ joined (map (λ k. k.text) cases)
-unfolding printout play play_items transmit_level interrupt direct called valid registers_valid character_valid word_in_place format_valid word_valid fresh reset_registers reset set_power receive_input external_edge input_pins peek read write_scr write_tdr status_with status_write stored connect load_tail after_store write process_basic sync clocked_edge advance half_step halves refresh_sync_clock take_bit receive_bit tail_ends bit_out shift_out sync_edge loaded preloaded begin start_at try_start next_cell advance_tx sample_at arm_receive complete_receive advance_rx bits number odd_ones format parity_cell frame word
+unfolding printout play play_items transmit_level interrupt direct called port_called baud_valid cycles halves_counted valid registers_valid character_valid word_in_place format_valid word_valid fresh fresh_port reset_registers reset set_power receive_input external_edge input_pins peek read write_scr write_tdr status_with status_write stored connect load_tail after_store write process_basic sync clocked_edge advance half_step halves refresh_sync_clock take_bit receive_bit tail_ends bit_out shift_out sync_edge loaded preloaded begin start_at try_start next_cell advance_tx sample_at arm_receive complete_receive advance_rx bits number odd_ones format parity_cell frame word
 whole_run = refl
 
 -- ---- refused commands
@@ -96,12 +98,13 @@ refused_cases =
     ∷ refused_row (0x02 ∷ 0xA7 ∷ 0xFF ∷ 0x03 ∷ 0x80 ∷ 0x01 ∷ []) 20 (3 ∷ 0 ∷ 0 ∷ [])
     ∷ refused_row (0x03 ∷ []) 20 (5 ∷ 0 ∷ 0 ∷ [])
     ∷ refused_row (0x80 ∷ 0x00 ∷ []) 20 (6 ∷ 0 ∷ 0 ∷ [])
-    ∷ refused_row (0x08 ∷ []) 20 (7 ∷ 0 ∷ 0 ∷ [])
+    ∷ refused_row (0x0A ∷ []) 20 (7 ∷ 0 ∷ 0 ∷ [])
+    ∷ refused_row (0x08 ∷ []) 20 (5 ∷ 0 ∷ 0 ∷ [])
     ∷ refused_row (0x07 ∷ []) 4 (9 ∷ 0 ∷ 0 ∷ [])
     ∷ refused_row (0x07 ∷ []) 5 (0 ∷ 0 ∷ 5 ∷ [])
     ∷ refused_row (0x07 ∷ 0x07 ∷ []) 9 (9 ∷ 1 ∷ 5 ∷ [])
     ∷ refused_row [] 0 (0 ∷ 0 ∷ 0 ∷ [])
-    ∷ refused_row (0x06 ∷ 0x03 ∷ 0x04 ∷ 0x00 ∷ 0x08 ∷ []) 20 (7 ∷ 4 ∷ 10 ∷ [])
+    ∷ refused_row (0x06 ∷ 0x03 ∷ 0x04 ∷ 0x00 ∷ 0x0A ∷ []) 20 (7 ∷ 4 ∷ 10 ∷ [])
     ∷ refused_row (0x08 ∷ []) 4 (9 ∷ 0 ∷ 0 ∷ [])
     ∷ []
 
@@ -109,12 +112,12 @@ abbrev pub told_by : Run Progress → List ℕ
 told_by r = r.number ∷ r.offset ∷ r.used ∷ []
 
 pub each_refusal : map (λ k. told_by (play fresh k.script (replicate k.room 0))) refused_cases ≡ map (λ k. k.told) refused_cases
-unfolding play play_items transmit_level interrupt direct called valid registers_valid character_valid word_in_place format_valid word_valid fresh reset_registers reset set_power receive_input external_edge input_pins peek read write_scr write_tdr status_with status_write stored connect load_tail after_store write process_basic sync clocked_edge advance half_step halves refresh_sync_clock take_bit receive_bit tail_ends bit_out shift_out sync_edge loaded preloaded begin start_at try_start next_cell advance_tx sample_at arm_receive complete_receive advance_rx bits number odd_ones format parity_cell frame word
+unfolding play play_items transmit_level interrupt direct called port_called baud_valid cycles halves_counted valid registers_valid character_valid word_in_place format_valid word_valid fresh fresh_port reset_registers reset set_power receive_input external_edge input_pins peek read write_scr write_tdr status_with status_write stored connect load_tail after_store write process_basic sync clocked_edge advance half_step halves refresh_sync_clock take_bit receive_bit tail_ends bit_out shift_out sync_edge loaded preloaded begin start_at try_start next_cell advance_tx sample_at arm_receive complete_receive advance_rx bits number odd_ones format parity_cell frame word
 each_refusal = refl
 
 -- ---- the length
 -- a script on a fresh port, and the edges that it counts across its resets: the module off and on again in mid script; reset mode; edges of the clock pin
--- before the module goes off; a wait while the clock stands; a refused command after others
+-- before the module goes off; a wait while the clock stands; a refused command after others; cycles of either clock
 pub record Counted : Type 0 where
   pub script : List ℕ
   pub length : ℕ
@@ -130,15 +133,23 @@ counted_cases =
     (0x06 ∷ 0x03 ∷ 0x02 ∷ 0x9A ∷ 0xFF ∷ 0x03 ∷ 0x02 ∷ 0x05 ∷ 0x00 ∷ 0x01 ∷ 0x05 ∷ 0x01 ∷ 0x01 ∷ 0x06 ∷ 0x00 ∷ [])
     2
     ∷ counted_row (0x03 ∷ 0x05 ∷ []) 0
-    ∷ counted_row (0x06 ∷ 0x03 ∷ 0x03 ∷ 0x05 ∷ 0x06 ∷ 0x00 ∷ 0x08 ∷ []) 5
+    ∷ counted_row (0x06 ∷ 0x03 ∷ 0x03 ∷ 0x05 ∷ 0x06 ∷ 0x00 ∷ 0x0A ∷ []) 5
+    -- 100 system cycles from 256 ticks left on; TE off, RE on: BRR 0 counts from the next half on; and the 157th cycle more is that half, the 158th the next
+    ∷ counted_row
+    (0x06 ∷ 0x03 ∷ 0x08 ∷ 0x64 ∷ 0x02 ∷ 0x9A ∷ 0xFF ∷ 0x03 ∷ 0x10 ∷ 0x02 ∷ 0x99 ∷ 0xFF ∷ 0x03 ∷ 0x00 ∷ 0x08 ∷ 0x9D ∷ 0x01 ∷ [])
+    2
+    -- 15 cycles with all off, then system/16, BRR 0: the next cycle is the 16th
+    ∷ counted_row
+    (0x08 ∷ 0x0F ∷ 0x06 ∷ 0x03 ∷ 0x02 ∷ 0x98 ∷ 0xFF ∷ 0x03 ∷ 0x02 ∷ 0x02 ∷ 0x99 ∷ 0xFF ∷ 0x03 ∷ 0x00 ∷ 0x08 ∷ 0x01 ∷ [])
+    1
     ∷ []
 
 pub each_length : map (λ k. (play fresh k.script (replicate 50 0)).state.length) counted_cases ≡ map (λ k. k.length) counted_cases
-unfolding play play_items transmit_level interrupt direct called valid registers_valid character_valid word_in_place format_valid word_valid fresh reset_registers reset set_power receive_input external_edge input_pins peek read write_scr write_tdr status_with status_write stored connect load_tail after_store write process_basic sync clocked_edge advance half_step halves refresh_sync_clock take_bit receive_bit tail_ends bit_out shift_out sync_edge loaded preloaded begin start_at try_start next_cell advance_tx sample_at arm_receive complete_receive advance_rx bits number odd_ones format parity_cell frame word
+unfolding play play_items transmit_level interrupt direct called port_called baud_valid cycles halves_counted valid registers_valid character_valid word_in_place format_valid word_valid fresh fresh_port reset_registers reset set_power receive_input external_edge input_pins peek read write_scr write_tdr status_with status_write stored connect load_tail after_store write process_basic sync clocked_edge advance half_step halves refresh_sync_clock take_bit receive_bit tail_ends bit_out shift_out sync_edge loaded preloaded begin start_at try_start next_cell advance_tx sample_at arm_receive complete_receive advance_rx bits number odd_ones format parity_cell frame word
 each_length = refl
 
 -- a run on the port that another left begins with 0: so each of two runs of the same script has its own edges only
 pub each_its_own :
-    (play (play fresh (0x06 ∷ 0x03 ∷ 0x03 ∷ 0x05 ∷ []) (replicate 50 0)).state.port (0x06 ∷ 0x03 ∷ 0x03 ∷ 0x05 ∷ []) (replicate 50 0)).state.length ≡ 5
-unfolding play play_items transmit_level interrupt direct called valid registers_valid character_valid word_in_place format_valid word_valid fresh reset_registers reset set_power receive_input external_edge input_pins peek read write_scr write_tdr status_with status_write stored connect load_tail after_store write process_basic sync clocked_edge advance half_step halves refresh_sync_clock take_bit receive_bit tail_ends bit_out shift_out sync_edge loaded preloaded begin start_at try_start next_cell advance_tx sample_at arm_receive complete_receive advance_rx bits number odd_ones format parity_cell frame word
+    (play (play fresh (0x06 ∷ 0x03 ∷ 0x03 ∷ 0x05 ∷ []) (replicate 50 0)).state.sci (0x06 ∷ 0x03 ∷ 0x03 ∷ 0x05 ∷ []) (replicate 50 0)).state.length ≡ 5
+unfolding play play_items transmit_level interrupt direct called port_called baud_valid cycles halves_counted valid registers_valid character_valid word_in_place format_valid word_valid fresh fresh_port reset_registers reset set_power receive_input external_edge input_pins peek read write_scr write_tdr status_with status_write stored connect load_tail after_store write process_basic sync clocked_edge advance half_step halves refresh_sync_clock take_bit receive_bit tail_ends bit_out shift_out sync_edge loaded preloaded begin start_at try_start next_cell advance_tx sample_at arm_receive complete_receive advance_rx bits number odd_ones format parity_cell frame word
 each_its_own = refl

@@ -3,7 +3,7 @@
 -- length .., or `refused N at P`. There is no header." The length is the run's own (player's Play.antt).
 -- Assumes nothing.
 use Rattle.std.specs.Prelude.{ℕ, zero, suc, ◌/◌, cond, List, [], ◌∷◌, ◌++◌, length, drop, get_or, replicate, ltb, eqb}
-use Rattle.port.specs.Power.{fresh}
+use Rattle.sci.specs.Calls.{fresh}
 use Rattle.machine.specs.Machine.{Run}
 use Rattle.player.specs.Play.{Progress, record_length, play}
 use Rattle.report.specs.Lines.{record_line, end_line, refused_line}

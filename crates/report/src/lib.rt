@@ -12,7 +12,7 @@ ghost use Rattle.report.specs.Printout.{first_line, last_line, printout};
 
 use arrayvec::ArrayString;
 use player::{RECORD, Refused};
-use port::Port;
+use sci::Sci;
 
 // The longest script that the program takes.
 const LONGEST: usize = 16384;
@@ -98,6 +98,7 @@ fn push_records(out: &mut ArrayString<98368>, records: &[[u8; RECORD]])
 }
 
 // The last line of a run.
+#[tactic(auto, using(crate::proofs::Printouts::refusal_last))]
 fn last_line(end: Result<(), Refused>, length: u64) -> ArrayString<64>
     ensures { result.bytes ≡ last_line (end_number end) (end_offset end) length }
 {
@@ -118,7 +119,7 @@ pub fn printout(script: &[u8], out: &mut ArrayString<98368>)
         return;
     }
     let mut log = [0u8; 40960];
-    let played = player::play(Port::default(), script, &mut log);
+    let played = player::play(Sci::default(), script, &mut log);
     let (records, _) = log[..played.used].as_chunks();
     push_records(out, records);
     out.push_str(&last_line(played.end, played.length));

@@ -16,7 +16,9 @@ use Rattle.command.specs.declared.Operands.{Operands}
 use Rattle.command.specs.declared.Operands.TheVariants.{None as NoOperands, One, Two}
 use mathlib.Core.Bool.{true, ◌&&◌}
 use Rattle.command.specs.declared.Command.{Command}
-use Rattle.command.specs.declared.Command.TheVariants.{Read, Write, Wait, Line, Pins, Power, Inside}
+use Rattle.command.specs.declared.Command.TheVariants.{OnPort, Cycles}
+use Rattle.command.specs.declared.Call.TheVariants.{Read, Write, Wait, Line, Pins, Power, Inside}
+use Rattle.command.specs.declared.Source.TheVariants.{System, Watch}
 use Rattle.script.specs.Number.{Reads, finds, and_then, number_at}
 use Rattle.script.specs.Encode.{encode}
 use Rattle.command.specs.Command.{Row, kinds, look_up, operands_of, command_of, kind, operands, InRange}
@@ -53,22 +55,26 @@ module _ (s : List ℕ) (mid next k : ℕ) where
       ∙ ap (λ v. and_then v (λ b next. finds (command_of k a b) next)) (operand_back b n (and_elim_right (leb a m) (leb b n) h) hn u))
 
 pub operands_read_back : OperandsReadBack
-operands_read_back s mid next (Read a) t h = one_back s mid next 1 a 65535 h (omega arith) refl t
-operands_read_back s mid next (Write a v) t h = two_back s mid next 2 a v 65535 255 h (omega arith) (omega arith) refl t
-operands_read_back s mid next (Wait n) t h = one_back s mid next 3 n 65535 h (omega arith) refl t
-operands_read_back s mid next (Line l) t h = one_back s mid next 4 l 1 h (omega arith) refl t
-operands_read_back s mid next (Pins c l) t h = two_back s mid next 5 c l 1 1 h (omega arith) (omega arith) refl t
-operands_read_back s mid next (Power b) t h = one_back s mid next 6 b 15 h (omega arith) refl t
-operands_read_back s mid next Inside t h = none_back s mid next 7 refl t
+operands_read_back s mid next (OnPort (Read a)) t h = one_back s mid next 1 a 65535 h (omega arith) refl t
+operands_read_back s mid next (OnPort (Write a v)) t h = two_back s mid next 2 a v 65535 255 h (omega arith) (omega arith) refl t
+operands_read_back s mid next (OnPort (Wait n)) t h = one_back s mid next 3 n 65535 h (omega arith) refl t
+operands_read_back s mid next (OnPort (Line l)) t h = one_back s mid next 4 l 1 h (omega arith) refl t
+operands_read_back s mid next (OnPort (Pins c l)) t h = two_back s mid next 5 c l 1 1 h (omega arith) (omega arith) refl t
+operands_read_back s mid next (OnPort (Power b)) t h = one_back s mid next 6 b 15 h (omega arith) refl t
+operands_read_back s mid next (OnPort Inside) t h = none_back s mid next 7 refl t
+operands_read_back s mid next (Cycles System n) t h = one_back s mid next 8 n 65535 h (omega arith) refl t
+operands_read_back s mid next (Cycles Watch n) t h = one_back s mid next 9 n 65535 h (omega arith) refl t
 
 pub kind_small : (c : Command) → kind c ≤ largest
-kind_small (Read a) = omega arith
-kind_small (Write a v) = omega arith
-kind_small (Wait n) = omega arith
-kind_small (Line l) = omega arith
-kind_small (Pins c l) = omega arith
-kind_small (Power b) = omega arith
-kind_small Inside = omega arith
+kind_small (OnPort (Read a)) = omega arith
+kind_small (OnPort (Write a v)) = omega arith
+kind_small (OnPort (Wait n)) = omega arith
+kind_small (OnPort (Line l)) = omega arith
+kind_small (OnPort (Pins c l)) = omega arith
+kind_small (OnPort (Power b)) = omega arith
+kind_small (OnPort Inside) = omega arith
+kind_small (Cycles System n) = omega arith
+kind_small (Cycles Watch n) = omega arith
 
 pub commands_read_back : CommandsReadBack
 commands_read_back s at next c t h =
@@ -156,7 +162,10 @@ module _ (s : List ℕ) (good : Bytes s) (mid : ℕ) where
             two_encoded 5 1 1 (λ a b. refl) (λ a b. refl) (λ a b h g. and_intro (le-leb a _ h) (le-leb b _ g)),
             (
               one_encoded 6 15 (λ a. refl) (λ a. refl) (λ a h. le-leb a _ h),
-              (record { of_kind = refl; stand = record { there = refl; end = omega arith }; within = refl }, tt),
+              (
+                record { of_kind = refl; stand = record { there = refl; end = omega arith }; within = refl },
+                (one_encoded 8 65535 (λ a. refl) (λ a. refl) (λ a h. le-leb a _ h), (one_encoded 9 65535 (λ a. refl) (λ a. refl) (λ a h. le-leb a _ h), tt)),
+              ),
             ),
           ),
         ),

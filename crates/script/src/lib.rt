@@ -10,7 +10,7 @@ ghost use Rattle.command.specs.Command.{operands_of};
 ghost use Rattle.script.specs.Command.{operand_at, with_operands, command_at};
 ghost use Rattle.script.specs.Write.{encode_all, bytes, as_put, put};
 
-use command::{Command, Kind, Operands, UnknownKind};
+use command::{Call, Command, Kind, Operands, UnknownKind};
 
 // Why a command cannot be read, by document 01's number.
 #[derive(Clone, Copy, Debug, PartialEq, Eq)]
@@ -204,13 +204,17 @@ pub fn write_command(buf: &mut [u8], at: usize, c: Command) -> Result<usize, Ful
     ensures { as_put result buf.new ≡ put (bytes c) at buf.old }
 {
     let kind = u32::from(u8::from(c.kind()));
-    match c {
-        Command::Read { address } => write_numbers(buf, at, &[kind, address]),
-        Command::Write { address, value } => write_numbers(buf, at, &[kind, address, value]),
-        Command::Wait { halves } => write_numbers(buf, at, &[kind, halves]),
-        Command::Line { line } => write_numbers(buf, at, &[kind, line]),
-        Command::Pins { clock, line } => write_numbers(buf, at, &[kind, clock, line]),
-        Command::Power { bits } => write_numbers(buf, at, &[kind, bits]),
-        Command::Inside => write_numbers(buf, at, &[kind]),
+    let call = match c {
+        Command::OnPort { call } => call,
+        Command::Cycles { cycles, .. } => return write_numbers(buf, at, &[kind, cycles]),
+    };
+    match call {
+        Call::Read { address } => write_numbers(buf, at, &[kind, address]),
+        Call::Write { address, value } => write_numbers(buf, at, &[kind, address, value]),
+        Call::Wait { halves } => write_numbers(buf, at, &[kind, halves]),
+        Call::Line { line } => write_numbers(buf, at, &[kind, line]),
+        Call::Pins { clock, line } => write_numbers(buf, at, &[kind, clock, line]),
+        Call::Power { bits } => write_numbers(buf, at, &[kind, bits]),
+        Call::Inside => write_numbers(buf, at, &[kind]),
     }
 }

@@ -1,7 +1,6 @@
 -- The laws of runs (specs/Runs.antt): those of every machine (machine's Runs.antt and Whole.antt), for the one-port player.
 -- Assumes nothing.
-use mathlib.Core.Path.{◌≡◌, refl, ap, subst, ◌∙◌}
-use mathlib.Core.Bool.{true}
+use mathlib.Core.Path.{◌≡◌, refl, sym, ap, subst, ◌∙◌}
 use mathlib.Core.List.{List, [], ◌∷◌}
 use Prim.Native.Nat.{ℕ, zero, suc, ◌-◌}
 use native.Mathlib.Omega.{arith}
@@ -10,12 +9,10 @@ use lib.Dec.{ltb}
 use Rattle.branches.proofs.Branches.{by_cond}
 use Rattle.command.specs.declared.Command.{Command}
 use Rattle.port.specs.declared.Port.{Port}
-use Rattle.port.specs.Calls.{Answer, done, refused, after, direct, run}
-use Rattle.port.specs.Power.{fresh}
-use Rattle.port.specs.Valid.{valid}
-use Rattle.port_laws.specs.Laws.{AcceptedPasses, GrownPasses}
-use Rattle.port_laws.specs.Edges.{edges}
-use Rattle.port_laws.proofs.Laws.{accepted_passes, grown_passes, passing_not_8}
+use Rattle.port.specs.Calls.{run as port_run}
+use Rattle.port.specs.Power.{fresh as fresh_port}
+use Rattle.sci.specs.declared.Sci.{Sci}
+use Rattle.sci.specs.Calls.{Answer, done, refused, after, direct, edges, fresh, valid}
 use Rattle.script.specs.declared.Fault.{Fault}
 use Rattle.script.specs.declared.Fault.TheVariants.{Short, Number, Kind, Operand}
 use Rattle.std.proofs.Common.{Ok, Err}
@@ -27,31 +24,34 @@ use Rattle.machine.proofs.Runs.{runs_are_commands, none_are_commands}
 use Rattle.machine.proofs.Whole.{NoFault, never}
 use Rattle.player.specs.Play.{Progress, record_length, room, items, started, longer, act_of, act, play}
 use Rattle.player.proofs.Laws.{sound}
-use Rattle.recovery.specs.Layers.{Layer}
-use Rattle.recovery.proofs.Layers.{carries_over, held_after}
-use Rattle.script_laws.specs.Runs.{Action, ActionsAreCalls, EightAtEntryOnly, IsItsCalls, RunsAreCalls, ScriptsRecover, all_calls, commands_played, counts_as, leaves, makes_call, plays_script, port_after}
+use Rattle.recovery.specs.Layers.{Layer, state_after}
+use Rattle.recovery.proofs.Layers.{all_keep, carries_over, held_after}
+use Rattle.sci_laws.specs.Translate.{calls, leaves as call_leaves, run}
+use Rattle.sci_laws.proofs.Translate.{layer as call_layer}
+use Rattle.sci_laws.proofs.Laws.{Passing, passing_after, passing_run, passing_fresh, passing_not_8}
+use Rattle.script_laws.specs.Runs.{Action, ActionsAreCalls, EightAtEntryOnly, IsItsCalls, RunsAreCalls, ScriptsRecover, commands_played, counts_as, leaves, makes_call, plays_script, sci_after}
 
 -- ---- a run is its commands' direct calls
 
--- commands of which none is refused leave the port that their direct calls leave
-pub one_call : (c : Command) (p : Progress) (a : Answer) → Acts (act_of c p a) → (left p (act_of c p a)).port ≡ after a
-one_call c p (done v q) h = refl
-one_call c p (refused n offset q) h = absurd h
+-- commands of which none is refused leave the state that their direct calls leave
+pub one_call : (c : Command) (p : Progress) (a : Answer) → Acts (act_of c p a) → (left p (act_of c p a)).sci ≡ after a
+one_call c p (done v s) h = refl
+one_call c p (refused n offset s) h = absurd h
 
-last_is_run : (cs : List Command) (p : Progress) → AllAct act p cs → (last act p cs).port ≡ run p.port cs
-unfolding run
+last_is_run : (cs : List Command) (p : Progress) → AllAct act p cs → (last act p cs).sci ≡ run p.sci cs
+unfolding state_after
 last_is_run [] p h = refl
-last_is_run (c ∷ cs) p h = last_is_run cs (left p (act c p)) h.1 ∙ ap (λ (q : Port). run q cs) (one_call c p (direct c p.port) h.0)
+last_is_run (c ∷ cs) p h = last_is_run cs (left p (act c p)) h.1 ∙ ap (λ (s : Sci). run s cs) (one_call c p (direct c p.sci) h.0)
 
-its_calls : (p : Port) (s log : List ℕ) (r : Run Progress) → IsItsCommands room act (started p) (commands (items s)) log r → IsItsCalls p s log r
-its_calls p s log r i = record { its_commands = i; port = ap (λ (x : Progress). x.port) i.state ∙ last_is_run (commands_played s r) (started p) i.accepted }
+its_calls : (s : Sci) (b log : List ℕ) (r : Run Progress) → IsItsCommands room act (started s) (commands (items b)) log r → IsItsCalls s b log r
+its_calls s b log r i = record { its_commands = i; sci = ap (λ (x : Progress). x.sci) i.state ∙ last_is_run (commands_played b r) (started s) i.accepted }
 
 pub runs_are_calls : RunsAreCalls
 unfolding play
-runs_are_calls p s log =
-    its_calls p s log (play p s log)
-    (by_cond (IsItsCommands room act (started p) (commands (items s)) log) (valid p) _ _ (λ t. runs_are_commands room act sound (started p) (items s) log)
-    (λ t. none_are_commands room act sound 8 0 (started p) (commands (items s)) log (λ z. absurd (omega arith))))
+runs_are_calls s b log =
+    its_calls s b log (play s b log)
+    (by_cond (IsItsCommands room act (started s) (commands (items b)) log) (valid s) _ _ (λ t. runs_are_commands room act sound (started s) (items b) log)
+    (λ t. none_are_commands room act sound 8 0 (started s) (commands (items b)) log (λ z. absurd (omega arith))))
 
 -- ---- the test 8
 
@@ -73,56 +73,64 @@ module _ (m : ℕ) (faults : (f : Fault) → fault_number f ≡ m → ⊥) where
   read_not next at (Ok found) h = h found.next
   read_not next at (Err why) h = faults why
 
-  items_not : (k : ℕ) (s : List ℕ) (at : ℕ) → NoFault m (items_up_to k (read_at record_length s) (length s) at)
-  items_not zero s at = tt
-  items_not (suc k) s at =
-      by_cond (NoFault m) (ltb at (length s)) _ _
-      (λ t. read_not (items_up_to k (read_at record_length s) (length s)) at (command_at s at) (λ n. items_not k s n)) (λ t. tt)
+  items_not : (k : ℕ) (b : List ℕ) (at : ℕ) → NoFault m (items_up_to k (read_at record_length b) (length b) at)
+  items_not zero b at = tt
+  items_not (suc k) b at =
+      by_cond (NoFault m) (ltb at (length b)) _ _
+      (λ t. read_not (items_up_to k (read_at record_length b) (length b)) at (command_at b at) (λ n. items_not k b n)) (λ t. tt)
 
-  all_not : (s : List ℕ) → NoFault m (items s)
-  all_not s = items_not (length s - 0) s 0
+  all_not : (b : List ℕ) → NoFault m (items b)
+  all_not b = items_not (length b - 0) b 0
 
-pub no_fault_0 : (s : List ℕ) → NoFault 0 (items s)
-no_fault_0 s = all_not 0 fault_not_0 s
+pub no_fault_0 : (b : List ℕ) → NoFault 0 (items b)
+no_fault_0 b = all_not 0 fault_not_0 b
 
--- nor does a call on a port that passes the field test, and what it leaves passes
-act_passes : (c : Command) (p q : Progress) (bs : List ℕ) (a : Answer) → direct c p.port ≡ a → act_of c p a ≡ acts bs q → valid q.port ≡ true
-unfolding AcceptedPasses
-act_passes c p q bs (done v r) e z =
-    let f : record { port = r; length = longer p.length (edges c p.port) } ≡ q = cc in subst (λ (x : Progress). valid x.port ≡ true) f (accepted_passes c p.port r v e)
-act_passes c p q bs (refused n offset r) e z = let f : ◌≡◌ {A = ℕ} 0 1 = cc in absurd (omega arith)
+-- nor does a call on a state that passes the field test, and what it leaves passes too
+module _ (c : Command) (p : Progress) (h : Passing p.sci) where
+  act_passing : (q : Progress) (bs : List ℕ) (a : Answer) → direct c p.sci ≡ a → act_of c p a ≡ acts bs q → Passing q.sci
+  act_passing q bs (done v s) e z =
+      let same : record { sci = s; length = longer p.length (edges c p.sci) } ≡ q = cc in
+      subst (λ (x : Progress). Passing x.sci) same (subst (λ (a : Answer). Passing (after a)) e (passing_after c p.sci h))
+  act_passing q bs (refused n offset s) e z = let f : ◌≡◌ {A = ℕ} 0 1 = cc in absurd (omega arith)
 
-act_not_8 : (c : Command) (p : Progress) (n : ℕ) (a : Answer) → valid p.port ≡ true → direct c p.port ≡ a → act_of c p a ≡ refuses n → n ≡ 8 → ⊥
-act_not_8 c p n (done v r) h e z w = let f : ◌≡◌ {A = ℕ} 0 1 = cc in absurd (omega arith)
-act_not_8 c p n (refused m offset r) h e z w =
-    let f : m ≡ n = cc in passing_not_8 c p.port r offset h (e ∙ ap (λ (k : ℕ). refused k offset r) (f ∙ w))
+  act_not_8 : (n : ℕ) (a : Answer) → direct c p.sci ≡ a → act_of c p a ≡ refuses n → n ≡ 8 → ⊥
+  act_not_8 n (done v s) e z w = let f : ◌≡◌ {A = ℕ} 0 1 = cc in absurd (omega arith)
+  act_not_8 n (refused m offset s) e z w =
+      let f : m ≡ n = cc in passing_not_8 c p.sci s offset h.passes (e ∙ ap (λ (k : ℕ). refused k offset s) (f ∙ w))
 
 pub eight_at_entry_only : EightAtEntryOnly
 unfolding play
-eight_at_entry_only p s log h =
+eight_at_entry_only s b log r h =
     rw h
-    (never room act 8 (λ z. omega arith) (λ z. omega arith) (λ (q : Progress). valid q.port ≡ true)
-    (λ c q r bs g e. act_passes c q r bs (direct c q.port) refl e) (λ c q n g e. act_not_8 c q n (direct c q.port) g refl e) (started p) (items s) log h
-    (all_not 8 fault_not_8 s))
+    (never room act 8 (λ z. omega arith) (λ z. omega arith) (λ (p : Progress). Passing p.sci)
+    (λ c p q bs g e. act_passing c p g q bs (direct c p.sci) refl e) (λ c p n g e. act_not_8 c p g n (direct c p.sci) refl e) (started s) (items b) log (record { passes = h; in_range = r })
+    (all_not 8 fault_not_8 b))
 
 -- ---- scripts after scripts
 
-layer : Layer leaves counts_as fresh (λ q p. q ≡ p)
-unfolding run
-layer = record { first_held = refl; kept = kept }
+action_passing : (a : Action) (s : Sci) → Passing s → Passing (leaves a s)
+action_passing (makes_call c) s h = passing_after c s h
+action_passing (plays_script b log) s h = subst Passing (sym (runs_are_calls s b log).sci) (passing_run (commands_played b (play s b log)) s h)
+
+layer : Layer leaves counts_as fresh (λ s p. s.port ≡ p)
+layer = record { first_held = call_layer.first_held; kept = kept }
   where
-    kept : (a : Action) (q p : Port) → q ≡ p → leaves a q ≡ run p (counts_as a q)
-    kept (makes_call c) q p e = ap (λ (x : Port). after (direct c x)) e
-    kept (plays_script s log) q p e = (runs_are_calls q s log).port ∙ ap (λ (x : Port). run x (commands_played s (play q s log))) e
+    kept : (a : Action) (s : Sci) (p : Port) → s.port ≡ p → (leaves a s).port ≡ port_run p (counts_as a s)
+    kept (makes_call c) s p e = call_layer.kept c s p e
+    kept (plays_script b log) s p e =
+        ap (λ (t : Sci). t.port) (runs_are_calls s b log).sci
+        ∙ held_after call_leaves calls fresh (λ t q. t.port ≡ q) call_layer (commands_played b (play s b log)) s p e
 
 pub actions_are_calls : ActionsAreCalls
-unfolding GrownPasses
 actions_are_calls actions =
-    let same : port_after actions ≡ run fresh (all_calls actions) = held_after leaves counts_as fresh (λ q p. q ≡ p) layer actions fresh fresh refl in
-    let test : valid (port_after actions) ≡ true = ap valid same ∙ grown_passes (all_calls actions) in
-    record { port = same; passes = test; never_by_8 = λ s log. eight_at_entry_only (port_after actions) s log test }
+    let k : Passing (sci_after actions) = all_keep leaves Passing action_passing actions fresh passing_fresh in
+    record {
+      port = held_after leaves counts_as fresh (λ s p. s.port ≡ p) layer actions fresh fresh_port layer.first_held;
+      passes = k.passes;
+      never_by_8 = λ b log. eight_at_entry_only (sci_after actions) b log k.in_range k.passes;
+    }
 
 -- ---- demand 3
 
 pub scripts_recover : ScriptsRecover
-scripts_recover = carries_over leaves counts_as fresh (λ q p. q ≡ p) layer
+scripts_recover = carries_over leaves counts_as fresh (λ s p. s.port ≡ p) layer

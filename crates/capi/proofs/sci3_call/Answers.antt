@@ -1,10 +1,13 @@
-use Rattle.std.proofs.Common.{◌∙◌}
-use Rattle.capi.proofs.Answers.{call_known}
+use Rattle.std.proofs.Common.{ap, ◌∙◌}
+use Rattle.command.specs.declared.Command.{Command}
+use Rattle.sci.specs.Calls.{called}
+use Rattle.capi.specs.Exports.{call_left}
+use Rattle.capi.proofs.Answers.{tested_call}
 use Rattle.capi.proofs.sci3_call.Goals as goal
 
 pub returns : goal.returns
 returns c =
     let a = c.args in
-    c.call_left.ensures
-    ∙ call_known c.in-Ok.kind a.kind a.a a.b a.state.now c.in-Some.port c.command.result _ c.in-Some.ensures.value c.in-Ok.ensures c.command.ensures
-    c.direct.ensures
+    let t = c.in-Ok.tested in
+    tested_call c.in-Ok-try_from.kind a.kind a.a a.b a.state.now c.in-Some.sci t.sci _ c.in-Some.ensures.value c.in-Ok.ensures t.passed c.in-Ok-try_from.ensures
+    (c.call_left.ensures ∙ ap (call_left a.state.now) (c.call-value.ensures.value ∙ ap (λ (y : Command). called y t.sci) c.command.ensures))

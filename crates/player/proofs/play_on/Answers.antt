@@ -6,11 +6,11 @@ use Rattle.player.proofs.play_on.Goals as goal
 
 -- what a command that is played leaves of the run
 went_on : (c : goal.In-Ok) →
-    Goes (play_on c.args.port.port c.args.script.now c.args.log.now) c.loop-at.used c.args.script.now c.loop-at.at c.loop-at.log
+    Goes (play_on c.args.tested.sci c.args.script.now c.args.log.now) c.loop-at.used c.args.script.now c.loop-at.at c.loop-at.log
     (put_mid c.loop-at.used (length c.loop-at.log - c.loop-at.used) c.loop-at.log c.step.new.log) (progress c.step.new.run) c.in-Ok.next
 went_on c =
     let l = c.loop-at in
-    port_goes_on (play_on c.args.port.port c.args.script.now c.args.log.now) (progress l.run) l.used _ l.at l.log _ _ _ l.invariant.0 c.loop-at-test.true l.invariant.2
+    port_goes_on (play_on c.args.tested.sci c.args.script.now c.args.log.now) (progress l.run) l.used _ l.at l.log _ _ _ l.invariant.0 c.loop-at-test.true l.invariant.2
     c.step.ensures.turn c.step.auto.log c.in-Ok.is
 
 pub loop-at-smaller : goal.loop-at-smaller

@@ -4,17 +4,17 @@ use Rattle.player.specs.Private.Step.{progress}
 use Rattle.player.proofs.Laws.{step_refused, step_onward}
 use Rattle.player.proofs.step.Goals as goal
 
-pub returns-in_err-called-clause-turn : goal.returns-in_err-called-clause-turn
-returns-in_err-called-clause-turn c =
+pub returns-in_err-value-clause-turn : goal.returns-in_err-value-clause-turn
+returns-in_err-value-clause-turn c =
     let a = c.args in
-    let p = err_from_is_err_and c.from_residual-in_err-called.result c.from_residual-in_err-called.ensures.1 in
+    let p = err_from_is_err_and c.from_residual-in_err-value.result c.from_residual-in_err-value.ensures.1 in
     rw (p.1, p.2)
-    (step_refused (progress a.run.now) a.script.now a.at a.log.now _ _ _ a.run.now.port.passed c.if-log-lt-RECORD.false
-    (sym c.in_ok-command.ensures) c.in_err-called.ensures)
+    (step_refused (progress a.run.now) a.script.now a.at a.log.now _ _ _ _ a.run.now.tested.passed c.if-log-lt-RECORD.false
+    (sym c.in_ok-command.ensures) c.in_err-value.ensures.value)
 
 pub returns-clause-turn : goal.returns-clause-turn
 returns-clause-turn c =
     let a = c.args in
-    step_onward (progress a.run.now) a.script.now a.at a.log.now _ _ _ _ _ a.run.now.port.passed c.if-log-lt-RECORD.false
-    (sym c.in_ok-command.ensures) c.in_ok-called.ensures
+    step_onward (progress a.run.now) a.script.now a.at a.log.now _ _ _ _ _ _ a.run.now.tested.passed c.if-log-lt-RECORD.false
+    (sym c.in_ok-command.ensures) c.in_ok-value.ensures.value
     c.longer-run.ensures c.write_record.ensures

@@ -1,7 +1,7 @@
 -- One command of a run as the player's loop takes it (machine's Step.antt), in the code's terms. No public contract cites this file.
 -- Assumes nothing.
 use Rattle.std.specs.Prelude.{ℕ, List, Result, Ok, Err}
-use Rattle.port.specs.declared.Port.{Port}
+use Rattle.sci.specs.declared.Sci.{Sci}
 use Rattle.machine.specs.Machine.{Run, play_items}
 use Rattle.machine.specs.Private.Step.{Turn, onward, stopped, step}
 use Rattle.script.specs.Items.{read_at}
@@ -10,7 +10,7 @@ use Rattle.player.specs.declared.Reason.{Reason}
 use Rattle.player.specs.Play.{Progress, record_length, room, items, started, act, reason_number}
 
 abbrev pub progress : Held → Progress
-progress h = record { port = h.port.port; length = h.length }
+progress h = record { sci = h.tested.sci; length = h.length }
 
 -- a step's answer, and the progress and the log after it
 abbrev pub stepped : Result ℕ Reason → Progress → List ℕ → Turn Progress
@@ -21,5 +21,5 @@ unfoldable pub port_step : Progress → List ℕ → ℕ → List ℕ → Turn P
 port_step p s at log = step room act (read_at record_length s) p at log
 
 -- the whole script, without test 8
-abbrev pub play_on : Port → List ℕ → List ℕ → Run Progress
-play_on p s log = play_items room act (started p) (items s) log
+abbrev pub play_on : Sci → List ℕ → List ℕ → Run Progress
+play_on s script log = play_items room act (started s) (items script) log

@@ -1,0 +1,6 @@
+pub mod Count
+pub mod Cycle
+pub mod Kept
+pub mod Laws
+pub mod Steps
+pub mod Wait

@@ -1,0 +1,6 @@
+pub mod Count
+pub mod Cycle
+pub mod Quick
+pub mod Calls
+pub mod Laws
+pub mod Private

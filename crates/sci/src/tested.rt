@@ -1,0 +1,125 @@
+// A state that has passed the field test, and the calls that ask this of it. They stand apart from the state, whose definitions their clauses cite.
+#![tactic(auto)]
+
+ghost use Rattle.std.specs.Prelude.{◌≡◌, true};
+ghost use Rattle.sci.specs.Calls.{valid, remaining_after};
+ghost use Rattle.sci.specs.declared.Refusal.TheVariants.{OfPort};
+
+use super::{MOST, Refusal, Sci, remaining_after};
+use command::{Call, Command, Source};
+
+// Whoever makes many calls on one state tests it once: every accepted call keeps the test.
+#[derive(Clone, Copy)]
+pub struct Tested {
+    pub sci: Sci,
+    pub ghost passed: { valid sci ≡ true },
+}
+
+impl From<port::Refusal> for Refusal {
+    ghost from_gives = { λ refusal result. result ≡ OfPort refusal };
+
+    fn from(refusal: port::Refusal) -> Refusal {
+        Refusal::OfPort(refusal)
+    }
+}
+
+impl TryFrom<Sci> for Tested {
+    type Error = Refusal;
+
+    ghost use Rattle.std.specs.Prelude.{false, MatchResult};
+    ghost use Rattle.port.specs.declared.Refusal.TheVariants.{State};
+
+    ghost try_from_gives = { λ sci result. MatchResult result (λ tested. tested.sci ≡ sci) (λ refusal. (valid sci ≡ false) × (refusal ≡ OfPort State)) };
+
+    #[inline(always)]
+    fn try_from(sci: Sci) -> Result<Self, Refusal> {
+        if !sci.valid() {
+            return Err(Refusal::OfPort(port::Refusal::State));
+        }
+        Ok(Self { sci })
+    }
+}
+
+// Each call changes the state in its place: a copy of it for every command of a script would cost a read half as much again.
+impl Tested {
+    ghost use Rattle.std.specs.Prelude.{OnErr};
+    ghost use Rattle.sci.specs.Calls.{called, answered};
+
+    // Kinds 2, 3 and 6, which may change the ticks that remain.
+    #[inline(always)]
+    #[tactic(auto, using(crate::proofs::Steps::port_passes, crate::proofs::Steps::remaining_some, crate::proofs::Steps::remaining_few, crate::proofs::Steps::accepted_in_range, crate::proofs::Kept::on_port_kept), unfolding(crate::specs::Calls::called))]
+    fn counted(&mut self, call: Call) -> Result<u8, Refusal>
+        ensures value { answered result self.new.sci ≡ called (Command.OnPort call) self.old.sci }
+        ensures kept { OnErr result (self.new.sci ≡ self.old.sci) }
+    {
+        let called = port::Tested {
+            port: self.sci.port,
+        }
+        .called(call)?;
+        let remaining = remaining_after(self.sci.port, self.sci.baud.remaining, call);
+        self.sci.port = called.port;
+        self.sci.baud.remaining = remaining;
+        Ok(called.value)
+    }
+
+    // Kinds 1, 4, 5 and 7, which leave them: a read in a script does not pay for what the others need.
+    #[inline(always)]
+    #[tactic(auto, using(crate::proofs::Steps::port_passes, crate::proofs::Kept::plain_kept), unfolding(crate::specs::Calls::called))]
+    fn plain(&mut self, call: Call) -> Result<u8, Refusal>
+        requires { remaining_after call self.old.sci.port self.old.sci.baud.remaining ≡ self.old.sci.baud.remaining }
+        ensures value { answered result self.new.sci ≡ called (Command.OnPort call) self.old.sci }
+        ensures kept { OnErr result (self.new.sci ≡ self.old.sci) }
+    {
+        let called = port::Tested {
+            port: self.sci.port,
+        }
+        .called(call)?;
+        self.sci.port = called.port;
+        Ok(called.value)
+    }
+
+    // n cycles of a clock pass: the port waits for the halves that they count.
+    #[inline(never)]
+    #[tactic(auto, using(crate::proofs::Steps::port_passes, crate::proofs::Steps::total_within, crate::proofs::Wait::called_waits, crate::proofs::Kept::cycles_kept))]
+    fn cycles(&mut self, source: Source, n: u32) -> Result<u8, Refusal>
+        ensures value { answered result self.new.sci ≡ called (Command.Cycles source n) self.old.sci }
+        ensures kept { OnErr result (self.new.sci ≡ self.old.sci) }
+    {
+        let Ok(cycles) = u16::try_from(n) else {
+            return Err(Refusal::OfPort(port::Refusal::Operand));
+        };
+        if self.sci.baud.total(source) + u64::from(cycles) > MOST {
+            return Err(Refusal::Total);
+        }
+        let counter = self.sci.counter(source);
+        let halves = u32::from(counter.halves(cycles));
+        let mut port = port::Tested {
+            port: self.sci.port,
+        }
+        .called(Call::Wait { halves })?
+        .port;
+        port.edge &= counter.at_edge(cycles);
+        let mut baud = self.sci.baud.advanced(source, cycles);
+        baud.remaining = counter.left(cycles);
+        self.sci = Sci { port, baud };
+        Ok(0)
+    }
+
+    // The call of a command; a refused one leaves the state as it was. Inlined for the same reason.
+    #[inline(always)]
+    pub fn call(&mut self, command: Command) -> Result<u8, Refusal>
+        ensures value { answered result self.new.sci ≡ called command self.old.sci }
+        ensures kept { OnErr result (self.new.sci ≡ self.old.sci) }
+    {
+        match command {
+            Command::OnPort { call } => match call {
+                Call::Read { .. } => self.plain(call),
+                Call::Line { .. } => self.plain(call),
+                Call::Pins { .. } => self.plain(call),
+                Call::Inside => self.plain(call),
+                _ => self.counted(call),
+            },
+            Command::Cycles { source, cycles } => self.cycles(source, cycles),
+        }
+    }
+}

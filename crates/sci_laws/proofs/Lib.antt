@@ -1,0 +1,4 @@
+pub mod Translate
+pub mod Laws
+pub mod Recovery
+pub mod Example
