@@ -1,5 +1,7 @@
 //! Copies the reference into the output folder, checks it and appends the
-//! accessors there. No line of the reference is kept in this repository.
+//! accessors there: once on its own clocks, and the port's files once more on
+//! the stand-in of two counters. No line of the reference is kept in this
+//! repository.
 #[path = "build/sha256.rs"]
 mod sha256;
 
@@ -20,13 +22,22 @@ const FILES: [&str; 8] = [
     "time.rs",
     "signals.rs",
 ];
+/// The folder of the port and its clocks, and the one where the port stands on
+/// the counters.
+const OWN: &str = "mcu/";
+const COUNTERS: &str = "counters/";
+/// The port's own files, which lie in both.
+const PORT: &str = "mcu/sci";
 /// Ours, put beside them: the modules that the reference imports and that
-/// were not published with it.
-const STANDINS: [&str; 4] = [
-    "mcu/mod.rs",
-    "mcu/bus.rs",
-    "mcu/clocks/cursor.rs",
-    "mcu/clocks/startup.rs",
+/// were not published with it; the last in place of its clocks.
+const STANDINS: [(&str, &str); 7] = [
+    ("mcu/mod.rs", "mcu/mod.rs"),
+    ("mcu/bus.rs", "mcu/bus.rs"),
+    ("mcu/clocks/cursor.rs", "mcu/clocks/cursor.rs"),
+    ("mcu/clocks/startup.rs", "mcu/clocks/startup.rs"),
+    ("mcu/mod.rs", "counters/mod.rs"),
+    ("mcu/bus.rs", "counters/bus.rs"),
+    ("counters/clocks.rs", "counters/clocks.rs"),
 ];
 /// Ours, appended to the copied file of the same name.
 const APPENDED: [&str; 2] = ["mcu/sci.rs", "mcu/sci/baud.rs"];
@@ -70,10 +81,13 @@ fn build() -> Result<(), String> {
             text.push_str(&read(&here.join("appended").join(file))?);
         }
         write(&tree.join(file), &text)?;
+        if file.starts_with(PORT) {
+            write(&tree.join(file.replace(OWN, COUNTERS)), &text)?;
+        }
     }
-    for file in STANDINS {
+    for (file, to) in STANDINS {
         let text = read(&here.join("standins").join(file))?;
-        write(&tree.join(file), &text)?;
+        write(&tree.join(to), &text)?;
     }
     // lib.rs includes this: a path attribute takes no environment variable,
     // and an included file may not begin with the reference's inner comments.
@@ -81,6 +95,7 @@ fn build() -> Result<(), String> {
         ("time", "time.rs"),
         ("signals", "signals.rs"),
         ("mcu", "mcu/mod.rs"),
+        ("counters", "counters/mod.rs"),
     ]
     .iter()
     .map(|(name, file)| {

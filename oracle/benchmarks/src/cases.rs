@@ -59,6 +59,11 @@ impl Case {
         let waits = self.commands.iter().filter(|c| c.kind == 3);
         waits.map(|c| c.a).sum()
     }
+    /// The cycles that it passes.
+    pub fn cycles(&self) -> u32 {
+        let cycles = self.commands.iter().filter(|c| matches!(c.kind, 8 | 9));
+        cycles.map(|c| c.a).sum()
+    }
 }
 
 impl Plan {
@@ -106,7 +111,7 @@ const ANY: usize = usize::MAX;
 const HALVES: Option<f64> = Some(0.3);
 
 #[rustfmt::skip]
-pub const PLANS: [Plan; 12] = [
+pub const PLANS: [Plan; 15] = [
     plan("idle wait of 65,535 halves", Unit::Wait, rounds::idle, rounds::wait_long, (256, 1), Some(1.0), HALVES),
     plan("sending, cell 32", Unit::Word, rounds::sender_32, rounds::send_32, (ANY, 64), Some(1.0), HALVES),
     plan("sending, cell 16", Unit::Word, rounds::sender_16, rounds::send_16, (ANY, 64), Some(1.0), HALVES),
@@ -116,6 +121,9 @@ pub const PLANS: [Plan; 12] = [
     plan("clocked sending", Unit::Word, rounds::clocked_sender, rounds::send_clocked, (ANY, 64), Some(1.0), HALVES),
     plan("clocked receiving", Unit::Word, rounds::clocked_receiver, rounds::receive_clocked, (ANY, 64), Some(1.0), HALVES),
     plan("clocked from outside, both ways", Unit::Word, rounds::clocked_outside, rounds::edges, (ANY, 64), Some(1.0), None),
+    plan("idle for 65,535 cycles", Unit::Wait, rounds::idle, rounds::cycles_long, (256, 1), Some(1.25), HALVES),
+    plan("sending in cycles", Unit::Word, rounds::sender_cycles, rounds::send_cycles, (ANY, 64), Some(1.25), HALVES),
+    plan("receiving in cycles", Unit::Word, rounds::receiver_cycles, rounds::receive_cycles, (ANY, 64), Some(1.25), HALVES),
     plan("register reads", Unit::Call, rounds::running, rounds::reads, (ANY, 64), Some(1.0), None),
     plan("register writes", Unit::Call, rounds::running, rounds::writes, (ANY, 64), Some(1.0), None),
     plan("mixed script", Unit::Call, rounds::idle, rounds::mixed, (ANY, 5), None, HALVES),

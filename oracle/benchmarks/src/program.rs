@@ -5,6 +5,7 @@ use crate::{
     port::{Pace, Reference},
 };
 use model::{LOG, Oracle, RECORD};
+use reference::Sci;
 use std::io::{Read, Write};
 
 /// The reference's program: standard input to standard output.
@@ -12,7 +13,7 @@ pub fn main(pace: Pace) -> Result<(), String> {
     let mut script = Vec::new();
     let text = |e: std::io::Error| e.to_string();
     std::io::stdin().read_to_end(&mut script).map_err(text)?;
-    let mut port = Reference::at(&Oracle::fresh().state(), pace);
+    let mut port: Reference<Sci> = Reference::at(&Oracle::fresh().state(), pace);
     let mut log = vec![0; LOG];
     let (written, length) = play::script(&mut port, &script, &mut log)?;
     let mut lines = printed(&log[..written]);

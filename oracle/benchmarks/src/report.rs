@@ -125,6 +125,7 @@ pub fn scripts(plans: &[&Plan]) -> Table {
         "script bytes",
         "commands",
         "halves waited for",
+        "cycles",
         "units",
     ]);
     for plan in plans {
@@ -133,6 +134,7 @@ pub fn scripts(plans: &[&Plan]) -> Table {
             case.script.len(),
             case.commands.len(),
             case.halves() as usize,
+            case.cycles() as usize,
             case.units,
         ];
         let mut cells = vec![plan.name.to_string()];

@@ -1,10 +1,10 @@
 //! What the cases are made of: the commands that bring a port to work, and
 //! those of one round, which is a word, a wait, one call of each register, or
 //! a list of the differential runs.
-use differential::lists::{PROFILES, of_profile};
+use differential::lists::{IN_HALVES, of_profile};
 use model::{
     Command, Oracle, refusal,
-    registers::{ADDRESSES, IRCR, RDR, SCR, SEMR, SMR, SPCR, TDR},
+    registers::{ADDRESSES, BRR, IRCR, RDR, SCR, SEMR, SMR, SPCR, TDR},
     sample::Random,
 };
 
@@ -19,6 +19,9 @@ fn write(address: u32, value: u8) -> Command {
 }
 pub fn wait(halves: u32) -> Command {
     call(3, halves, 0)
+}
+fn cycles(n: u32) -> Command {
+    call(8, n, 0)
 }
 fn line(level: bool) -> Command {
     call(4, level.into(), 0)
@@ -64,6 +67,19 @@ pub fn receiver_32() -> Vec<Command> {
 pub fn receiver_16() -> Vec<Command> {
     with(&[(SEMR, semr(16)), (SCR, 0x10)])
 }
+/// 9,600 bits a second of 3,686,400 cycles: twelve cycles are a half, and 32
+/// halves a bit.
+const DIVISOR: u8 = 11;
+const BIT: u32 = 12 * 32;
+/// As `sender`, the mark passed in cycles.
+pub fn sender_cycles() -> Vec<Command> {
+    let mut all = with(&[(SPCR, 0x10), (BRR, DIVISOR), (SCR, 0x20), (TDR, 0x55)]);
+    all.push(cycles(11 * BIT));
+    all
+}
+pub fn receiver_cycles() -> Vec<Command> {
+    with(&[(BRR, DIVISOR), (SCR, 0x10)])
+}
 /// A word is in the shifter, the next can be written.
 pub fn clocked_sender() -> Vec<Command> {
     with(&[(SPCR, 0x10), (SMR, 0x80), (SCR, 0x20), (TDR, 0x55)])
@@ -87,6 +103,10 @@ pub fn wait_long(_: &mut Random, out: &mut Vec<Command>) {
     out.push(wait(65_535));
 }
 
+pub fn cycles_long(_: &mut Random, out: &mut Vec<Command>) {
+    out.push(cycles(65_535));
+}
+
 /// The next byte is written while the word before it is sent.
 fn send(halves: u32, r: &mut Random, out: &mut Vec<Command>) {
     out.extend([write(TDR, r.byte()), wait(halves)]);
@@ -101,10 +121,15 @@ pub fn send_clocked(r: &mut Random, out: &mut Vec<Command>) {
     send(8 * 4, r, out);
 }
 
+pub fn send_cycles(r: &mut Random, out: &mut Vec<Command>) {
+    out.extend([write(TDR, r.byte()), cycles(10 * BIT)]);
+}
+
 /// The line moves only where the level changes; the byte is read at the end.
-fn shape(levels: &[bool], cell: u32, out: &mut Vec<Command>) {
+/// Time passes by `pass`, so much for each level.
+fn shape(levels: &[bool], pass: fn(u32) -> Command, each: u32, out: &mut Vec<Command>) {
     for run in levels.chunk_by(|a, b| a == b) {
-        out.extend([line(run[0]), wait(run.len() as u32 * cell)]);
+        out.extend([line(run[0]), pass(run.len() as u32 * each)]);
     }
     out.push(read(RDR));
 }
@@ -112,11 +137,17 @@ fn bits(byte: u8) -> [bool; 8] {
     std::array::from_fn(|place| byte >> place & 1 != 0)
 }
 /// Start bit, eight bits, stop bit.
-fn receive(byte: u8, cell: u32, out: &mut Vec<Command>) {
+fn character(byte: u8) -> [bool; 10] {
     let mut levels = [true; 10];
     levels[0] = false;
     levels[1..9].copy_from_slice(&bits(byte));
-    shape(&levels, cell, out);
+    levels
+}
+fn receive(byte: u8, cell: u32, out: &mut Vec<Command>) {
+    shape(&character(byte), wait, cell, out);
+}
+pub fn receive_cycles(r: &mut Random, out: &mut Vec<Command>) {
+    shape(&character(r.byte()), cycles, BIT, out);
 }
 pub fn receive_32(r: &mut Random, out: &mut Vec<Command>) {
     receive(r.byte(), 32, out);
@@ -129,7 +160,7 @@ pub fn receive_zero_32(_: &mut Random, out: &mut Vec<Command>) {
     receive(0, 32, out);
 }
 pub fn receive_clocked(r: &mut Random, out: &mut Vec<Command>) {
-    shape(&bits(r.byte()), 4, out);
+    shape(&bits(r.byte()), wait, 4, out);
 }
 /// Sixteen edges of the clock pin; a byte goes out while another comes in.
 pub fn edges(r: &mut Random, out: &mut Vec<Command>) {
@@ -158,10 +189,10 @@ pub fn writes(r: &mut Random, out: &mut Vec<Command>) {
     }
 }
 
-/// One list of the differential runs, of any profile but the one that is
-/// refused; the sender, the receiver, both clocks and the power all move.
+/// One list of the differential runs, of any profile in halves but the one
+/// that is refused; the sender, the receiver, both clocks and the power all move.
 pub fn mixed(r: &mut Random, out: &mut Vec<Command>) {
-    let profile = r.below(PROFILES.len() as u32 - 1) as usize;
+    let profile = r.below(IN_HALVES as u32) as usize;
     let list = of_profile(profile, r.below(u32::MAX).into());
     // The profiles hold a few calls that are refused wherever they stand.
     let fresh = Oracle::fresh().state();

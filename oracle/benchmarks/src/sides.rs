@@ -3,10 +3,11 @@
 use crate::{
     cases::Case,
     play,
-    port::{Pace, Reference},
+    port::{Counted, Driven, Pace, Reference},
 };
 use differential::layout::{MOST, Words, decode, encode, read};
 use model::{Command, RECORD, State};
+use reference::Sci;
 
 /// Where a run ended: the state, and the log of its records or answers.
 #[derive(Clone, Debug, PartialEq, Eq)]
@@ -37,7 +38,7 @@ pub enum Kind {
     Events,
     /// The same over commands read beforehand, with nothing to refuse.
     List,
-    /// As `Events`, stepped half by half.
+    /// As `Events`, stepped half by half, or cycle by cycle.
     Stepped,
     /// Ours: `sci3_call`, one for each command, over the array of numbers.
     Calls,
@@ -66,17 +67,26 @@ pub fn named(name: &str) -> Option<Vec<Kind>> {
     }
 }
 
-/// None where the side is ours and the port is not linked.
+/// None where the side is ours and the port is not linked. A case of cycles
+/// has the reference on the counters.
 pub fn side<'a>(kind: Kind, case: &'a Case) -> Option<Box<dyn Side + 'a>> {
-    Some(match kind {
-        Kind::Player => return ours(case, true),
-        Kind::Calls => return ours(case, false),
-        Kind::Events => Playing::boxed(case, Pace::Events, Task::Script(&case.script)),
-        Kind::Stepped => Playing::boxed(case, Pace::Halves, Task::Script(&case.script)),
-        Kind::List => Playing::boxed(case, Pace::Events, Task::List(&case.commands)),
-        Kind::Methods => Playing::boxed(case, Pace::Events, Task::Calls(&case.commands)),
-        Kind::Array => Box::new(Array::new(case)),
-    })
+    match kind {
+        Kind::Player => ours(case, true),
+        Kind::Calls => ours(case, false),
+        _ if case.cycles() > 0 => Some(of_reference::<Counted>(kind, case)),
+        _ => Some(of_reference::<Sci>(kind, case)),
+    }
+}
+
+fn of_reference<'a, S: Driven>(kind: Kind, case: &'a Case) -> Box<dyn Side + 'a> {
+    let (pace, task) = match kind {
+        Kind::Stepped => (Pace::Steps, Task::Script(&case.script)),
+        Kind::List => (Pace::Events, Task::List(&case.commands)),
+        Kind::Methods => (Pace::Events, Task::Calls(&case.commands)),
+        Kind::Array => return Box::new(Array::<S>::new(case)),
+        _ => (Pace::Events, Task::Script(&case.script)),
+    };
+    Box::new(Playing::<S>::new(case, pace, task))
 }
 
 #[cfg(feature = "player")]
@@ -99,35 +109,35 @@ enum Task<'a> {
     Calls(&'a [Command]),
 }
 
-struct Playing<'a> {
+struct Playing<'a, S: Driven> {
     task: Task<'a>,
-    start: Reference,
-    port: Reference,
+    start: Reference<S>,
+    port: Reference<S>,
     log: Vec<u8>,
     length: u64,
     ended: Result<usize, String>,
 }
 
-impl<'a> Playing<'a> {
-    fn boxed(case: &Case, pace: Pace, task: Task<'a>) -> Box<dyn Side + 'a> {
+impl<'a, S: Driven> Playing<'a, S> {
+    fn new(case: &Case, pace: Pace, task: Task<'a>) -> Self {
         let start = Reference::at(&case.start, pace);
         let record = if matches!(task, Task::Calls(_)) {
             1
         } else {
             RECORD
         };
-        Box::new(Self {
+        Self {
             task,
             port: start.clone(),
             start,
             log: vec![0; case.commands.len() * record],
             length: 0,
             ended: Ok(0),
-        })
+        }
     }
 }
 
-impl Side for Playing<'_> {
+impl<S: Driven> Side for Playing<'_, S> {
     fn reset(&mut self) {
         self.port.clone_from(&self.start);
         self.log.fill(0);
@@ -163,16 +173,16 @@ pub fn outcome(ended: &Result<usize, String>, state: State, log: &[u8]) -> Resul
     }
 }
 
-struct Array<'a> {
+struct Array<'a, S: Driven> {
     commands: &'a [Command],
-    port: Reference,
+    port: Reference<S>,
     start: Words,
     words: Words,
     answers: Vec<u8>,
     ended: Result<usize, String>,
 }
 
-impl<'a> Array<'a> {
+impl<'a, S: Driven> Array<'a, S> {
     fn new(case: &'a Case) -> Self {
         let start = encode(&case.start);
         Self {
@@ -184,7 +194,7 @@ impl<'a> Array<'a> {
             ended: Ok(0),
         }
     }
-    fn call(port: &mut Reference, words: &mut Words, c: Command) -> Result<u8, String> {
+    fn call(port: &mut Reference<S>, words: &mut Words, c: Command) -> Result<u8, String> {
         // As ours: no number above its place's greatest, and places that are
         // not in use are not looked at.
         if words.iter().zip(&MOST).any(|(word, most)| word > most) {
@@ -201,7 +211,7 @@ impl<'a> Array<'a> {
     }
 }
 
-impl Side for Array<'_> {
+impl<S: Driven> Side for Array<'_, S> {
     fn reset(&mut self) {
         self.words = self.start;
         self.answers.fill(0);

@@ -1,14 +1,16 @@
 //! Where the reference driven by its own `deadline` and `advance` ends
-//! otherwise than stepped half by half. There is one such place: a clocked
+//! otherwise than stepped half by half, or cycle by cycle on the counters.
+//! There is one such place: a clocked
 //! word that ends while SMR is start-stop and the line is at space. The edge
 //! that ends it comes after the half's arming, so the next word is armed by
 //! the next step of any kind; stepped that is the next half, driven by events
 //! it is the next event. Benchmarks must not go there.
-use benchmarks::port::{Pace, Reference};
+use benchmarks::port::{Counted, Driven, Pace, Reference};
 use differential::lists;
 use model::{Command, Oracle, State, bytes, commands, refusal};
+use reference::Sci;
 
-fn begun(pace: Pace) -> Reference {
+fn begun<S: Driven>(pace: Pace) -> Reference<S> {
     Reference::at(&Oracle::fresh().state(), pace)
 }
 
@@ -18,8 +20,8 @@ fn clocked_rest(s: &State) -> bool {
 }
 
 /// The first call after which the two are not the same: the state before it.
-fn first_difference(list: &[Command]) -> Option<(Command, State)> {
-    let (mut events, mut halves) = (begun(Pace::Events), begun(Pace::Halves));
+fn first_difference<S: Driven>(list: &[Command]) -> Option<(Command, State)> {
+    let (mut events, mut halves) = (begun::<S>(Pace::Events), begun::<S>(Pace::Steps));
     for c in list {
         let before = halves.state().expect("a state of document 01");
         if refusal(&before, c.kind, c.a, c.b).is_some() {
@@ -36,18 +38,25 @@ fn first_difference(list: &[Command]) -> Option<(Command, State)> {
 
 #[test]
 fn only_after_the_rest_of_a_clocked_word() {
-    let mut met = 0;
-    for seed in 0..3000 {
+    let mut met = [0; 2];
+    for seed in 0..6000 {
         let (_, list) = lists::list(seed);
-        if let Some((c, before)) = first_difference(&list) {
-            met += 1;
+        let has = |kinds: &[u32]| list.iter().any(|c| kinds.contains(&c.kind));
+        let (place, difference) = match (has(&[3]), has(&[8, 9])) {
+            (_, false) => (0, first_difference::<Sci>(&list)),
+            (false, true) => (1, first_difference::<Counted>(&list)),
+            // No clocks have both.
+            (true, true) => continue,
+        };
+        if let Some((c, before)) = difference {
+            met[place] += 1;
             assert!(
-                c.kind == 3 && clocked_rest(&before),
+                matches!(c.kind, 3 | 8 | 9) && clocked_rest(&before),
                 "seed {seed}: {c:?}, {before:?}"
             );
         }
     }
-    assert!(met > 0, "the place was not met");
+    assert!(met.iter().all(|met| *met > 0), "not met: {met:?}");
 }
 
 /// The smallest script that meets it.
@@ -55,7 +64,7 @@ fn only_after_the_rest_of_a_clocked_word() {
 fn smallest() {
     let script = bytes("06 03 02 98 FF 03 80 01 02 9A FF 03 10 04 00 03 1E 02 98 FF 03 00 03 12");
     let armed = |pace| {
-        let mut port = begun(pace);
+        let mut port = begun::<Sci>(pace);
         for c in commands(&script).0 {
             port.call(c).expect("no error");
         }
@@ -63,6 +72,6 @@ fn smallest() {
         rx.map(|rx| (rx.position, rx.next))
     };
     // The clocked word ends at half 32; the wait ends at half 48.
-    assert_eq!(armed(Pace::Halves), Some((-1, Some(50))));
+    assert_eq!(armed(Pace::Steps), Some((-1, Some(50))));
     assert_eq!(armed(Pace::Events), Some((-2, Some(49))));
 }

@@ -1,5 +1,6 @@
 //! Document 01's own cases: the words, the facts under "More", the refusal
-//! table and the printed run, with the figures that the document prints.
+//! table and the printed run, with the figures that the document prints; and
+//! document 02's, worked out by hand.
 use crate::{
     Part,
     tools::{after, end, ends, sender, shows},
@@ -26,6 +27,7 @@ pub fn all() -> Vec<Part> {
             printed_run(),
         ],
         lengths(),
+        in_cycles(),
     ]
     .concat()
 }
@@ -38,6 +40,38 @@ fn lengths() -> Vec<Part> {
         ends("06 03 03 05 06 0B", "end 5"),
         ends("06 03 02 9A FF 03 02 05 00 01 05 01 01 06 00", "end 2"),
     ]
+}
+
+/// Document 02, Two: a word begun at an edge that a cycle counted and off it,
+/// BRR with RE on, a divider that has run before, another choice of clock.
+fn in_cycles() -> Vec<Part> {
+    let mut parts: Vec<Part> = [
+        ("06 03 02 99 FF 03 00 08 20 02 9A FF 03 20", "half 352"),
+        (
+            "06 03 02 99 FF 03 00 08 20 09 01 02 9A FF 03 20",
+            "half 384",
+        ),
+    ]
+    .map(|(script, expected)| {
+        let mut port = after(script);
+        let met = first_half(&mut port, |s| s.tx.is_none());
+        Part::new(format!("{script}: mark ends"), expected, met)
+    })
+    .to_vec();
+    parts.extend([
+        ends(
+            "06 03 08 64 02 9A FF 03 10 02 99 FF 03 00 08 9D 01",
+            "end 2",
+        ),
+        ends("08 0F 06 03 02 98 FF 03 02 02 99 FF 03 00 08 01", "end 1"),
+        ends(
+            "06 01 02 98 FF 03 02 06 03 02 98 FF 03 00 08 80 02",
+            "end 1",
+        ),
+        ends("0A", "refused 7 at 0"),
+        ends("08 80 80 04", "refused 2 at 0"),
+    ]);
+    parts
 }
 
 /// The seven words, each taken from the sender that has loaded it.
@@ -181,7 +215,7 @@ fn refusals() -> Vec<Part> {
         ),
         ends("03", "refused 5 at 0"),
         ends("80 00", "refused 6 at 0"),
-        ends("08", "refused 7 at 0"),
+        ends("08", "refused 5 at 0"),
         Part::new(
             "receive position 10: 07",
             "refused 8 at 0",

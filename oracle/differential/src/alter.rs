@@ -2,8 +2,9 @@
 //! shows, mostly in one situation only, as a mistake in a port would.
 use crate::port::Shown;
 use model::{
-    Answer, ClockDrive, Command, LIMIT, Rx, State, Tx,
-    registers::{RDR, SCR, SSR, TDR},
+    Answer, CYCLES, ClockDrive, Command, LIMIT, Rx, State, Tx, choice, counting, cycles, halves,
+    registers::{BRR, RDR, SCR, SMR, SSR, TDR},
+    total,
 };
 
 pub struct Alteration {
@@ -19,7 +20,7 @@ fn accepted(shown: &Shown) -> bool {
 /// The receiver's word that this one half completed.
 fn completed(before: &State, call: Command, shown: &Shown) -> Option<Rx> {
     let s = &shown.state;
-    let one = s.half == before.half.wrapping_add(1) && matches!(call.kind, 3 | 5);
+    let one = s.half == before.half.wrapping_add(1) && matches!(call.kind, 3 | 5 | 8 | 9);
     before.rx.filter(|rx| {
         let last = rx.format.data as i8 + i8::from(rx.format.parity);
         one && rx.next == Some(s.half) && rx.position == last
@@ -28,6 +29,22 @@ fn completed(before: &State, call: Command, shown: &Shown) -> Option<Rx> {
 
 fn gained(before: &State, shown: &Shown, flag: u8) -> bool {
     shown.state.ssr & !before.ssr & flag != 0
+}
+
+/// The halves that an accepted call of cycles counted.
+fn by_cycles(before: &State, call: Command, shown: &Shown) -> Option<u32> {
+    let is = cycles(call.kind).is_some() && accepted(shown) && call.a > 0;
+    is.then(|| shown.state.half.wrapping_sub(before.half))
+}
+
+/// Whether the call is a write of BRR that the module takes.
+fn brr_taken(before: &State, call: Command, shown: &Shown) -> bool {
+    let write = (call.kind, call.a) == (2, BRR) && accepted(shown);
+    write && before.module && !before.reset_mode
+}
+
+fn full(s: &State) -> u16 {
+    u16::from(s.brr) + 1
 }
 
 /// The due half of a sender in data.
@@ -241,7 +258,7 @@ alterations! {
         }
     }
     "refusal: 7 before 8": |_, call, shown| {
-        if !(1..=7).contains(&call.kind) {
+        if !(1..=9).contains(&call.kind) {
             shown.answer = Answer::Refused(7);
         }
     }
@@ -289,6 +306,221 @@ alterations! {
         let s = &shown.state;
         if s.ssr & 0x78 == 8 && s.scr & 0xc4 == 0x40 {
             shown.interrupt = false;
+        }
+    }
+    "count: kept by a reset": |before, call, shown| {
+        if call.kind == 6 {
+            shown.state.remaining = before.remaining;
+        }
+    }
+    "count: BRR+1 after a reset of the old BRR": |before, call, shown| {
+        if call.kind == 6 && before.module && !shown.state.module {
+            shown.state.remaining = full(before);
+        }
+    }
+    "count: kept by BRR with TE and RE off": |before, call, shown| {
+        if brr_taken(before, call, shown) {
+            shown.state.remaining = before.remaining;
+        }
+    }
+    "count: kept by BRR with the value it has": |before, call, shown| {
+        if brr_taken(before, call, shown) && before.brr == shown.state.brr {
+            shown.state.remaining = before.remaining;
+        }
+    }
+    "count: kept by BRR while stopped": |before, call, shown| {
+        if brr_taken(before, call, shown) && !counting(before) {
+            shown.state.remaining = before.remaining;
+        }
+    }
+    "count: restarted by BRR with TE on": |before, call, shown| {
+        if brr_taken(before, call, shown) && before.scr & 0x30 == 0x20 {
+            shown.state.remaining = full(&shown.state);
+        }
+    }
+    "count: restarted by BRR with RE on": |before, call, shown| {
+        if brr_taken(before, call, shown) && before.scr & 0x30 == 0x10 {
+            shown.state.remaining = full(&shown.state);
+        }
+    }
+    "count: restarted by BRR with the module off": |before, call, shown| {
+        if (call.kind, call.a) == (2, BRR) && accepted(shown) && !before.module {
+            shown.state.remaining = call.b as u16 + 1;
+        }
+    }
+    "count: restarted by another choice": |before, call, shown| {
+        if (call.kind, call.a) == (2, SMR) && (before.smr ^ shown.state.smr) & 3 != 0 {
+            shown.state.remaining = full(&shown.state);
+        }
+    }
+    "count: restarted by a stop": |before, call, shown| {
+        if call.kind == 6 && counting(before) && !counting(&shown.state) {
+            shown.state.remaining = full(&shown.state);
+        }
+    }
+    "count: restarted by an external edge": |before, call, shown| {
+        if call.kind == 5 && shown.state.half != before.half {
+            shown.state.remaining = full(&shown.state);
+        }
+    }
+    "count: kept by a half of kind 3": |before, call, shown| {
+        if call.kind == 3 {
+            shown.state.remaining = before.remaining;
+        }
+    }
+    "count: full after kind 3 that counts nothing": |before, call, shown| {
+        if call.kind == 3 && call.a > 0 && shown.state.half == before.half {
+            shown.state.remaining = full(before);
+        }
+    }
+    "count: one tick short after a half": |before, call, shown| {
+        let one = by_cycles(before, call, shown) == Some(1);
+        if one && shown.state.edge && shown.state.remaining > 1 {
+            shown.state.remaining -= 1;
+        }
+    }
+    "total: a divider held while the port stands": |before, call, shown| {
+        if by_cycles(before, call, shown).is_some() && !counting(before) && choice(before).1 > 1 {
+            let (total, divider) = (shown.state.system, choice(before).1);
+            shown.state.system = total / divider * divider;
+        }
+    }
+    "count: ticks of system/64 one cycle late": |before, call, shown| {
+        let ticks = by_cycles(before, call, shown).is_some() && counting(before);
+        let now = call.kind == 8 && before.smr & 3 == 3 && shown.state.system.is_multiple_of(64);
+        if ticks && now && !shown.state.edge {
+            shown.state.remaining += 1;
+        }
+    }
+    "cycles: of the other clock tick too": |before, call, shown| {
+        let other = cycles(call.kind).is_some_and(|clock| clock != choice(before).0);
+        if other && accepted(shown) && call.a > 0 && shown.state.remaining > 1 && counting(before) {
+            shown.state.remaining -= 1;
+        }
+    }
+    "cycles: tick on the external clock": |before, call, shown| {
+        let counted = by_cycles(before, call, shown).is_some();
+        if counted && before.scr & 2 != 0 && shown.state.remaining > 1 {
+            shown.state.remaining -= 1;
+        }
+    }
+    "cycles: one half too few of several": |before, call, shown| {
+        if by_cycles(before, call, shown).is_some_and(|counted| counted > 1) {
+            shown.state.half -= 1;
+        }
+    }
+    "total: lost by a reset": |_, call, shown| {
+        if call.kind == 6 && !shown.state.module && accepted(shown) {
+            shown.state.system = 0;
+        }
+    }
+    "total: stands with the module off": |before, _, shown| {
+        if !before.module {
+            shown.state.watch = before.watch;
+        }
+    }
+    "total: stands while the clock is off": |before, call, shown| {
+        if call.kind == 8 && !before.main {
+            shown.state.system = before.system;
+        }
+    }
+    "total: watch cycles counted as system cycles": |before, call, shown| {
+        if call.kind == 9 && accepted(shown) {
+            shown.state.watch = before.watch;
+            shown.state.system = before.system + u64::from(call.a);
+        }
+    }
+    "total: halves in place of cycles": |before, call, shown| {
+        if call.kind == 3 && counting(before) && accepted(shown) {
+            shown.state.system = before.system + u64::from(call.a);
+        }
+    }
+    "edge bit: kept by cycles that count nothing": |before, call, shown| {
+        if by_cycles(before, call, shown) == Some(0) {
+            shown.state.edge = before.edge;
+        }
+    }
+    "edge bit: kept by cycles with the module off": |before, call, shown| {
+        if by_cycles(before, call, shown).is_some() && !before.module {
+            shown.state.edge = before.edge;
+        }
+    }
+    "edge bit: kept by cycles of the other clock": |before, call, shown| {
+        if cycles(call.kind).is_some_and(|clock| clock != choice(before).0) && accepted(shown) {
+            shown.state.edge = before.edge;
+        }
+    }
+    "edge bit: set by any half of several cycles": |before, call, shown| {
+        if by_cycles(before, call, shown).is_some_and(|counted| counted > 0) {
+            shown.state.edge = true;
+        }
+    }
+    "edge bit: cleared by 0 cycles": |_, call, shown| {
+        if cycles(call.kind).is_some() && call.a == 0 && accepted(shown) {
+            shown.state.edge = false;
+        }
+    }
+    "refusal: 10 one cycle too early": |before, call, shown| {
+        let clock = cycles(call.kind).filter(|_| accepted(shown) && call.a > 0);
+        if clock.is_some_and(|clock| total(before, clock) + u64::from(call.a) == CYCLES) {
+            shown.answer = Answer::Refused(10);
+        }
+    }
+    "refusal: 10 for 0 cycles at the greatest total": |before, call, shown| {
+        let clock = cycles(call.kind).filter(|_| accepted(shown) && call.a == 0);
+        if clock.is_some_and(|clock| total(before, clock) == CYCLES) {
+            shown.answer = Answer::Refused(10);
+        }
+    }
+    "refusal: 4 before 10": |before, call, shown| {
+        if let (Answer::Refused(10), Some(clock)) = (shown.answer, cycles(call.kind))
+            && halves(before, clock, call.a.into()) > u64::from(LIMIT - before.half)
+        {
+            shown.answer = Answer::Refused(4);
+        }
+    }
+    "refusal: 10 before 2": |before, call, shown| {
+        let clock = cycles(call.kind).filter(|_| shown.answer == Answer::Refused(2));
+        if clock.is_some_and(|clock| total(before, clock) + u64::from(call.a) > CYCLES) {
+            shown.answer = Answer::Refused(10);
+        }
+    }
+    "refusal: 10 only of the chosen clock": |before, call, shown| {
+        if shown.answer == Answer::Refused(10)
+            && cycles(call.kind).is_some_and(|clock| clock != choice(before).0)
+        {
+            shown.answer = Answer::Done(0);
+        }
+    }
+    "refusal: 10 only with the module on": |before, _, shown| {
+        if shown.answer == Answer::Refused(10) && !before.module {
+            shown.answer = Answer::Done(0);
+        }
+    }
+    "refusal: 4 for cycles one half too early": |before, call, shown| {
+        let counted = by_cycles(before, call, shown);
+        if counted.is_some_and(|counted| counted > 0) && shown.state.half == LIMIT {
+            shown.answer = Answer::Refused(4);
+        }
+    }
+    "refusal: 4 for cycles at the limit that count nothing": |before, call, shown| {
+        if by_cycles(before, call, shown) == Some(0) && before.half == LIMIT {
+            shown.answer = Answer::Refused(4);
+        }
+    }
+    "refusal: 257 ticks left pass the field test": |before, _, shown| {
+        if before.remaining == 257 {
+            shown.answer = Answer::Done(0);
+        }
+    }
+    "refusal: no ticks left pass the field test": |before, _, shown| {
+        if before.remaining == 0 {
+            shown.answer = Answer::Done(0);
+        }
+    }
+    "refusal: a total one past the limit passes the field test": |before, _, shown| {
+        if before.watch == CYCLES + 1 {
+            shown.answer = Answer::Done(0);
         }
     }
 }

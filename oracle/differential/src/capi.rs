@@ -72,8 +72,8 @@ impl Port for CapiPort {
             return Ok(Answer::Done(value));
         }
         match answer - REFUSED {
-            number @ 1..=9 if self.words == before => Ok(Answer::Refused(number as u8)),
-            number @ 1..=9 => Err(format!("refusal {number} has changed the array")),
+            number @ 1..=10 if self.words == before => Ok(Answer::Refused(number as u8)),
+            number @ 1..=10 => Err(format!("refusal {number} has changed the array")),
             _ => Err(format!("sci3_call answers {answer}")),
         }
     }
@@ -112,7 +112,7 @@ pub fn arrays() -> (u64, Vec<String>) {
     for (what, array) in &all {
         let mut lent = array.clone();
         let mut answers: Vec<(&str, u64)> = Vec::new();
-        for kind in 0..=8 {
+        for kind in 0..=10 {
             let c = Command { kind, a: 0, b: 0 };
             answers.push(("sci3_call", call(&mut lent, c)));
         }

@@ -72,9 +72,11 @@ pub fn play(
     alteration: Option<&Alteration>,
     watch: &mut dyn FnMut(&Step),
 ) -> Result<(), Difference> {
-    begin(reference, &case.start);
-    begin(port, &case.start);
-    let begun = |side: &dyn Port| Shown::of(side, Answer::Done(0));
+    let begun = |side: &mut dyn Port| {
+        begin(side, &case.start);
+        side.prepare(&case.calls)?;
+        Shown::of(side, Answer::Done(0))
+    };
     let mut before = same(None, begun(reference), begun(port), false)?.state;
     let mut free = false;
     for (number, call) in case.calls.iter().enumerate() {
@@ -116,7 +118,7 @@ fn clock_free(free: bool, before: &State, call: Command, shown: &Shown) -> bool 
     let output = |s: &State| s.scr & 2 == 0 && (s.scr & 1 != 0 || s.smr & 0x80 != 0);
     match call.kind {
         2 => free || clocked(before) && !output(after) && after.scr & 2 == 0,
-        3 => free && call.a == 0,
+        3 | 8 | 9 => free && call.a == 0,
         6 => free && !resets(before, call.a),
         7 => false,
         _ => free,
@@ -292,6 +294,9 @@ pub fn state_fields(s: &State) -> Fields {
         ("sync_next", due(s.sync_next)),
         ("words finished", s.transmitted.to_string()),
         ("words received", s.received.to_string()),
+        ("ticks left", s.remaining.to_string()),
+        ("system cycles", s.system.to_string()),
+        ("watch cycles", s.watch.to_string()),
     ]);
     all
 }
@@ -299,7 +304,7 @@ pub fn state_fields(s: &State) -> Fields {
 /// Whether a call counts halves or an edge: how many.
 pub fn counted(step: &Step) -> u32 {
     match (step.answer, step.call.kind) {
-        (Answer::Done(_), 3 | 5) => step.after.half.wrapping_sub(step.before.half),
+        (Answer::Done(_), 3 | 5 | 8 | 9) => step.after.half.wrapping_sub(step.before.half),
         _ => 0,
     }
 }

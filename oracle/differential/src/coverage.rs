@@ -6,8 +6,10 @@ use crate::{
     states::BREAKS,
 };
 use model::{
-    Answer, Character, ClockDrive, LIMIT, Rx, State, Tx, counting, format,
-    registers::{RDR, SCR, SMR, SSR, TDR},
+    Answer, CYCLES, Character, Clock, ClockDrive, LIMIT, Rx, State, Tx, choice, counting, cycles,
+    format, halves,
+    registers::{BRR, RDR, SCR, SMR, SSR, TDR},
+    running, total,
 };
 
 macro_rules! table {
@@ -62,6 +64,7 @@ table! {
         ResetMode = "reset mode",
         Power = "power only",
         Inside = "kind 7",
+        Cycles = "kinds 8 and 9",
         Refused = "refused",
     }
 }
@@ -119,7 +122,7 @@ table! {
         ExternalOn = "clock turned external",
         ExternalOff = "clock turned internal",
         Refused8 = "refused 8",
-        Refused8Kind = "refused 8, kind not 1 to 7",
+        Refused8Kind = "refused 8, kind not 1 to 9",
         Refused2Read = "refused 2, kind 1",
         Refused2Address = "refused 2, kind 2, address",
         Refused2Value = "refused 2, kind 2, value",
@@ -139,7 +142,67 @@ table! {
         LimitFar = "limit met by kind 3 of more than 60000 halves",
         LimitPins = "limit met by kind 5",
         LimitNoEdge = "kind 5 at the limit, no edge to count",
-        Kind = "refused 7, kind not 1 to 7",
+        Kind = "refused 7, kind not 1 to 9",
+        Refused2System = "refused 2, kind 8",
+        Refused2Watch = "refused 2, kind 9",
+        Refused10System = "refused 10, kind 8",
+        Refused10Watch = "refused 10, kind 9",
+        Refused10ByOne = "refused 10, by one cycle",
+        Refused10Before4 = "refused 10, where 4 holds too",
+        Refused10Off = "refused 10, module off",
+        Refused10Unchosen = "refused 10, counting by the other clock",
+        Refused4System = "refused 4, system cycles",
+        Refused4Watch = "refused 4, watch cycles",
+        Refused4System16 = "refused 4, system/16",
+        Refused4System64 = "refused 4, system/64",
+        Refused4CyclesByOne = "refused 4, by the last cycle",
+        Refused4CyclesLater = "refused 4, cycles whose first half would pass",
+        TotalLimit = "total met by cycles",
+        TotalLimitNone = "no cycles at the greatest total",
+        LimitCycles = "limit met by cycles",
+        LimitUncounted = "cycles at the limit that count no half",
+        Half1 = "cycles: halves, system",
+        HalfWatch = "cycles: halves, watch",
+        Half16 = "cycles: halves, system/16",
+        Half64 = "cycles: halves, system/64",
+        Ticks1 = "cycles: ticks and no half, system",
+        TicksWatch = "cycles: ticks and no half, watch",
+        Ticks16 = "cycles: ticks and no half, system/16",
+        Ticks64 = "cycles: ticks and no half, system/64",
+        NoTick16 = "cycles: no tick, system/16",
+        NoTick64 = "cycles: no tick, system/64",
+        OneCycle = "cycles: one, which counts a half",
+        Several = "cycles: several halves",
+        Unchosen = "cycles: of the other clock",
+        CyclesOff = "cycles: module off",
+        CyclesMode = "cycles: reset mode",
+        CyclesStopped = "cycles: module on, no clock that runs it",
+        CyclesExternal = "cycles: external clock",
+        CyclesSub = "cycles: halves on the subclock alone",
+        CyclesLong = "cycles: more than 60000",
+        CyclesClear = "cycles: none counts a half, the edge bit cleared",
+        CyclesClearLast = "cycles: a half, then one that clears the edge bit",
+        CyclesEdge = "cycles: the last counts a half",
+        CyclesNone = "cycles: 0, the edge bit kept",
+        Longer = "count: longer than BRR gives, a half counted",
+        Restart = "count: restarted by BRR",
+        RestartSame = "count: restarted by BRR with the value it has",
+        RestartStopped = "count: restarted by BRR, stopped",
+        RestartExternal = "count: restarted by BRR, external clock",
+        KeptTe = "count: kept, BRR written with TE on",
+        KeptRe = "count: kept, BRR written with RE on",
+        KeptBoth = "count: kept, BRR written with TE and RE on",
+        KeptOff = "count: kept, BRR written with the module off",
+        KeptMode = "count: kept, BRR written in reset mode",
+        KeptChoice = "count: kept by another choice",
+        KeptStop = "count: kept by a stop",
+        KeptExternal = "count: kept by the clock turned external",
+        KeptEdge = "count: kept by an external edge",
+        KeptWait = "count: kept by kind 3 that counts nothing",
+        FullWait = "count: full after a half of kind 3",
+        CountModule = "count: 256 after a module reset",
+        CountMode = "count: 256 after reset mode",
+        TotalsKept = "totals kept by a reset",
         ResetModule = "reset: module off",
         ResetModuleInMode = "reset: module off, reset mode on before",
         ResetBoth = "reset: module off and reset mode in one",
@@ -191,6 +254,11 @@ pub struct Coverage {
     met: Vec<u64>,
     profiles: [u64; PROFILES.len()],
     breaks: [u64; BREAKS.len()],
+    /// By choice and BRR: halves that cycles counted and after which the count
+    /// began anew.
+    counts: Box<[[u64; 256]; 4]>,
+    /// By value: writes of BRR that restarted the count.
+    restarts: [u64; 256],
     /// Halves and edges counted.
     pub halves: u64,
 }
@@ -202,6 +270,8 @@ impl Default for Coverage {
             met: vec![0; Met::ALL.len()],
             profiles: [0; PROFILES.len()],
             breaks: [0; BREAKS.len()],
+            counts: Box::new([[0; 256]; 4]),
+            restarts: [0; 256],
             halves: 0,
         }
     }
@@ -283,11 +353,13 @@ impl Coverage {
             }
             5 => self.pins(step, counted),
             6 => self.power(step),
+            8 | 9 => self.cycles(step, counted),
             _ => {
                 self.event(step.before, Event::Inside);
                 self.met_if(step.before.edge, Met::InsideEdge);
             }
         }
+        self.count(step, counted);
         if counted == 1 {
             self.half(step);
         }
@@ -321,7 +393,7 @@ impl Coverage {
     fn refused(&mut self, step: &Step, number: u8) {
         let (s, c) = (step.before, step.call);
         self.met(match (number, c.kind) {
-            (8, 1..=7) => Met::Refused8,
+            (8, 1..=9) => Met::Refused8,
             (8, _) => Met::Refused8Kind,
             (2, 1) => Met::Refused2Read,
             (2, 2) if c.a > 0xffff => Met::Refused2Address,
@@ -330,18 +402,155 @@ impl Coverage {
             (2, 4) => Met::Refused2Line,
             (2, 5) if c.a > 1 => Met::Refused2Clock,
             (2, 5) => Met::Refused2Pin,
-            (2, _) => Met::Refused2Power,
+            (2, 6) => Met::Refused2Power,
+            (2, 8) => Met::Refused2System,
+            (2, _) => Met::Refused2Watch,
             (1, 1) => Met::Refused1Read,
             (1, _) => Met::Refused1Write,
             (3, _) => Met::Refused3,
             (4, 5) => Met::Refused4Pins,
-            (4, _) => Met::Refused4Wait,
+            (4, 3) => Met::Refused4Wait,
+            (4, _) => {
+                let rows = [
+                    Met::Refused4System,
+                    Met::Refused4Watch,
+                    Met::Refused4System16,
+                    Met::Refused4System64,
+                ];
+                rows[chosen(s)]
+            }
+            (10, 8) => Met::Refused10System,
+            (10, _) => Met::Refused10Watch,
             _ => Met::Kind,
         });
+        if let Some(clock) = cycles(c.kind) {
+            self.refused_cycles(step, number, clock);
+        }
         if (number, c.kind) == (4, 3) {
             let left = LIMIT - s.half;
             self.met_if(c.a == left + 1, Met::Refused4ByOne);
             self.met_if(left > 60_000, Met::Refused4Far);
+        }
+    }
+
+    fn refused_cycles(&mut self, step: &Step, number: u8, clock: Clock) {
+        let (s, n) = (step.before, u64::from(step.call.a));
+        let left = u64::from(LIMIT.wrapping_sub(s.half));
+        let past = |n| halves(s, clock, n) > left;
+        if number == 4 {
+            self.met_if(!past(n - 1), Met::Refused4CyclesByOne);
+            self.met_if(left > 0, Met::Refused4CyclesLater);
+        }
+        if number == 10 {
+            self.met_if(total(s, clock) + n == CYCLES + 1, Met::Refused10ByOne);
+            self.met_if(past(n), Met::Refused10Before4);
+            self.met_if(!s.module, Met::Refused10Off);
+            self.met_if(counting(s) && choice(s).0 != clock, Met::Refused10Unchosen);
+        }
+    }
+
+    fn cycles(&mut self, step: &Step, counted: u32) {
+        let (s, after, n) = (step.before, step.after, step.call.a);
+        let Some(clock) = cycles(step.call.kind) else {
+            return;
+        };
+        self.event(s, Event::Cycles);
+        let greatest = total(after, clock) == CYCLES;
+        if n == 0 {
+            self.met_if(greatest, Met::TotalLimitNone);
+            return self.met_if(s.edge, Met::CyclesNone);
+        }
+        self.met_if(greatest, Met::TotalLimit);
+        self.met_if(n > 60_000, Met::CyclesLong);
+        self.met_if(s.edge && counted == 0, Met::CyclesClear);
+        self.met_if(counted > 0 && !after.edge, Met::CyclesClearLast);
+        self.met_if(counted > 0 && after.edge, Met::CyclesEdge);
+        self.met_if(n == 1 && counted == 1, Met::OneCycle);
+        self.met_if(counted > 1, Met::Several);
+        let limit = after.half == LIMIT;
+        self.met_if(counted > 0 && limit, Met::LimitCycles);
+        self.met_if(counted == 0 && limit, Met::LimitUncounted);
+        if !counting(s) {
+            return self.met(match s {
+                State { module: false, .. } => Met::CyclesOff,
+                State {
+                    reset_mode: true, ..
+                } => Met::CyclesMode,
+                _ if running(s) => Met::CyclesExternal,
+                _ => Met::CyclesStopped,
+            });
+        }
+        if choice(s).0 != clock {
+            return self.met(Met::Unchosen);
+        }
+        let chosen = chosen(s);
+        if counted > 0 {
+            self.met([Met::Half1, Met::HalfWatch, Met::Half16, Met::Half64][chosen]);
+            self.met_if(!s.main, Met::CyclesSub);
+            self.met_if(s.remaining > u16::from(s.brr) + 1, Met::Longer);
+            self.counts[chosen][usize::from(s.brr)] += 1;
+        } else if after.remaining < s.remaining {
+            self.met([Met::Ticks1, Met::TicksWatch, Met::Ticks16, Met::Ticks64][chosen]);
+        } else {
+            self.met_if(chosen == 2, Met::NoTick16);
+            self.met_if(chosen == 3, Met::NoTick64);
+        }
+    }
+
+    /// What a write, a wait, the pins and power do to the count.
+    fn count(&mut self, step: &Step, counted: u32) {
+        let (s, after) = (step.before, step.after);
+        let c = step.call;
+        let begun = s.remaining != u16::from(s.brr) + 1;
+        match c.kind {
+            2 if c.a == BRR => self.restart(step),
+            2 if begun && counting(s) => {
+                let changed = (s.smr ^ after.smr) & 3 != 0;
+                self.met_if(changed && counting(after), Met::KeptChoice);
+                self.met_if(after.scr & 2 != 0, Met::KeptExternal);
+            }
+            3 => {
+                self.met_if(begun && counted > 0, Met::FullWait);
+                self.met_if(begun && c.a > 0 && counted == 0, Met::KeptWait);
+            }
+            5 => self.met_if(begun && counted > 0, Met::KeptEdge),
+            6 if !resets(s, c.a) => {
+                self.met_if(begun && counting(s) && !counting(after), Met::KeptStop);
+            }
+            6 => {
+                let module = s.module && !after.module;
+                let begun = s.remaining != 256;
+                self.met_if(begun && module, Met::CountModule);
+                self.met_if(begun && !module, Met::CountMode);
+                self.met_if(s.system > 0 && s.watch > 0, Met::TotalsKept);
+            }
+            _ => {}
+        }
+    }
+
+    fn restart(&mut self, step: &Step) {
+        let (s, value) = (step.before, step.call.b as u8);
+        if s.remaining == u16::from(value) + 1 {
+            return;
+        }
+        if !s.module || s.reset_mode {
+            return self.met(if s.module {
+                Met::KeptMode
+            } else {
+                Met::KeptOff
+            });
+        }
+        self.met(match s.scr & 0x30 {
+            0x20 => Met::KeptTe,
+            0x10 => Met::KeptRe,
+            0x30 => Met::KeptBoth,
+            _ => Met::Restart,
+        });
+        if s.scr & 0x30 == 0 {
+            self.restarts[usize::from(value)] += 1;
+            self.met_if(value == s.brr, Met::RestartSame);
+            self.met_if(!running(s), Met::RestartStopped);
+            self.met_if(running(s) && !counting(s), Met::RestartExternal);
         }
     }
 
@@ -639,6 +848,13 @@ impl Coverage {
         for row in Met::ALL {
             rows.push((row.text().into(), self.met[*row as usize]));
         }
+        let choices = ["system", "watch", "system/16", "system/64"];
+        for (choice, counts) in choices.iter().zip(self.counts.iter()) {
+            let name = format!("halves by cycles of {choice}, the fewest of any BRR");
+            rows.push((name, fewest(counts)));
+        }
+        let name = "count restarted by BRR, the fewest of any value";
+        rows.push((name.into(), fewest(&self.restarts)));
         for ((name, _), count) in PROFILES.iter().zip(self.profiles) {
             rows.push((format!("profile: {name}"), count));
         }
@@ -683,6 +899,15 @@ impl Coverage {
             println!("{count:>12} {name}");
         }
     }
+}
+
+fn fewest(counts: &[u64; 256]) -> u64 {
+    counts.iter().copied().min().unwrap_or(0)
+}
+
+/// The number of the clock choice.
+fn chosen(s: &State) -> usize {
+    usize::from(s.smr & 3)
 }
 
 /// A word waits at -2 that did not before.

@@ -1,8 +1,9 @@
 //! Document 01's own cases as direct calls on one side, with the figures that
-//! the document prints.
+//! the document prints, and document 02's rules of cycles with figures worked
+//! out by hand.
 use crate::port::Port;
 use model::{
-    Answer, Command, LIMIT, Rx, State, Tx, bytes, commands,
+    Answer, CYCLES, Command, LIMIT, Rx, State, Tx, bytes, commands,
     document::{PRINTOUT, RUN, WORDS},
     format,
     registers::{SCR, SMR, TDR},
@@ -162,6 +163,17 @@ pub fn all(port: &mut dyn Port) -> Vec<Part> {
         let met = after(port, script).map(|s| show(&s));
         part(format!("{about}: {script}"), expected.into(), met);
     }
+    for (about, script, expected) in in_cycles() {
+        let met = after(port, script).map(|s| counted(&s));
+        part(format!("{about}: {script}"), expected.into(), met);
+    }
+    for (script, half) in [
+        ("06 03 02 99 FF 03 00 08 20 02 9A FF 03 20", 352),
+        ("06 03 02 99 FF 03 00 08 20 09 01 02 9A FF 03 20", 384),
+    ] {
+        let met = after(port, script).and_then(|_| first_half(port, |s| s.tx.is_none()));
+        part(format!("mark ends: {script}"), format!("half {half}"), met);
+    }
     part(
         "the printed run".into(),
         PRINTOUT.join(" / "),
@@ -186,6 +198,95 @@ fn sent_word(port: &mut dyn Port, smr: u32, value: u32) -> Result<String> {
     Ok("never sent".into())
 }
 
+/// What cycles count.
+fn counted(s: &State) -> String {
+    format!(
+        "half {}, {} left, edge {}, cycles {} {}",
+        s.half,
+        s.remaining,
+        u8::from(s.edge),
+        s.system,
+        s.watch
+    )
+}
+
+/// Document 02, Two.
+fn in_cycles() -> Vec<(&'static str, &'static str, &'static str)> {
+    vec![
+        ("fresh", "", "half 0, 256 left, edge 0, cycles 0 0"),
+        (
+            "the first half of a fresh port",
+            "06 03 08 80 02",
+            "half 1, 256 left, edge 1, cycles 256 0",
+        ),
+        (
+            "one more",
+            "06 03 08 80 02 08 01",
+            "half 1, 255 left, edge 0, cycles 257 0",
+        ),
+        (
+            "watch cycles do not count for the system clock",
+            "06 03 09 80 02",
+            "half 0, 256 left, edge 0, cycles 0 256",
+        ),
+        (
+            "0 cycles keep the edge bit",
+            "06 03 08 80 02 08 00 09 00",
+            "half 1, 256 left, edge 1, cycles 256 0",
+        ),
+        (
+            "cycles with the port off",
+            "08 FF FF 03 09 05",
+            "half 0, 256 left, edge 0, cycles 65535 5",
+        ),
+        (
+            "BRR with RE on waits for the reload",
+            "06 03 08 64 02 9A FF 03 10 02 99 FF 03 00 08 9D 01",
+            "half 2, 1 left, edge 1, cycles 257 0",
+        ),
+        (
+            "BRR with TE and RE off restarts the count",
+            "06 03 08 64 02 99 FF 03 00 08 01",
+            "half 1, 1 left, edge 1, cycles 101 0",
+        ),
+        (
+            "dividers run freely",
+            "08 0F 06 03 02 98 FF 03 02 02 99 FF 03 00 08 01",
+            "half 1, 1 left, edge 1, cycles 16 0",
+        ),
+        (
+            "system/64",
+            "06 03 02 98 FF 03 03 02 99 FF 03 01 08 FF 01",
+            "half 1, 1 left, edge 0, cycles 255 0",
+        ),
+        (
+            "the watch clock",
+            "06 05 02 98 FF 03 01 02 99 FF 03 09 09 0B",
+            "half 1, 9 left, edge 0, cycles 0 11",
+        ),
+        (
+            "another choice keeps what is left",
+            "06 01 02 98 FF 03 02 06 03 02 98 FF 03 00 08 80 02",
+            "half 1, 256 left, edge 1, cycles 256 0",
+        ),
+        (
+            "kind 3 leaves a full count",
+            "06 03 08 64 03 01",
+            "half 1, 256 left, edge 1, cycles 100 0",
+        ),
+        (
+            "kind 3 that counts nothing leaves the count",
+            "06 03 08 64 06 01 03 01",
+            "half 0, 156 left, edge 0, cycles 100 0",
+        ),
+        (
+            "a reset leaves 256 and the totals",
+            "06 03 02 99 FF 03 05 08 07 09 03 06 00",
+            "half 0, 256 left, edge 0, cycles 7 3",
+        ),
+    ]
+}
+
 type Refusal = (&'static str, Option<State>, (u32, u32, u32), &'static str);
 
 /// The rows of the refusal table that a direct call can meet, each with its
@@ -205,6 +306,22 @@ fn refusals(fresh: State) -> Vec<Refusal> {
         Some(State {
             rx: Some(Rx::at(position, format(smr, 0))),
             ..fresh
+        })
+    };
+    let totals = |system, watch| {
+        Some(State {
+            system,
+            watch,
+            ..fresh
+        })
+    };
+    let left = |remaining| Some(State { remaining, ..fresh });
+    // Each system cycle counts a half.
+    let due = |half| {
+        at(half).map(|s| State {
+            brr: 0,
+            remaining: 1,
+            ..s
         })
     };
     vec![
@@ -259,6 +376,83 @@ fn refusals(fresh: State) -> Vec<Refusal> {
         ("2 before 3", None, (2, 0xffa7, 0x180), "refused 2"),
         ("2 before 4", at(LIMIT), (3, 0x1_0000, 0), "refused 2"),
         ("1 without 3", None, (2, 0xff90, 0x80), "refused 1"),
+        ("row 2, system cycles", None, (8, 0x1_0000, 0), "refused 2"),
+        ("row 2, watch cycles", None, (9, 0x1_0000, 0), "refused 2"),
+        ("row 10", totals(CYCLES, 0), (8, 1, 0), "refused 10"),
+        ("row 10, watch", totals(0, CYCLES), (9, 1, 0), "refused 10"),
+        (
+            "row 10, near",
+            totals(CYCLES - 1, 0),
+            (8, 1, 0),
+            "accepted, 00",
+        ),
+        (
+            "row 10, no cycle",
+            totals(CYCLES, 0),
+            (8, 0, 0),
+            "accepted, 00",
+        ),
+        (
+            "row 10, own clock",
+            totals(0, CYCLES),
+            (8, 1, 0),
+            "accepted, 00",
+        ),
+        (
+            "row 10, whole n first",
+            totals(CYCLES - 5, 0),
+            (8, 6, 0),
+            "refused 10",
+        ),
+        ("row 4, a cycle", due(LIMIT), (8, 1, 0), "refused 4"),
+        (
+            "row 4, a cycle, near",
+            due(LIMIT - 1),
+            (8, 1, 0),
+            "accepted, 00",
+        ),
+        (
+            "row 4, cycles, whole n first",
+            due(LIMIT - 5),
+            (8, 6, 0),
+            "refused 4",
+        ),
+        ("row 4, no half", due(LIMIT), (9, 1, 0), "accepted, 00"),
+        (
+            "10 before 4",
+            due(LIMIT).map(|s| State {
+                system: CYCLES,
+                ..s
+            }),
+            (8, 1, 0),
+            "refused 10",
+        ),
+        (
+            "2 before 10",
+            totals(CYCLES, 0),
+            (8, 0x1_0000, 0),
+            "refused 2",
+        ),
+        ("row 8, no ticks left", left(0), (7, 0, 0), "refused 8"),
+        ("row 8, 257 ticks left", left(257), (7, 0, 0), "refused 8"),
+        (
+            "row 8, 256 ticks left",
+            left(256),
+            (7, 0, 0),
+            "accepted, 00",
+        ),
+        (
+            "row 8, system cycles",
+            totals(CYCLES + 1, 0),
+            (8, 0, 0),
+            "refused 8",
+        ),
+        (
+            "row 8, watch cycles",
+            totals(0, CYCLES + 1),
+            (8, 0, 0),
+            "refused 8",
+        ),
     ]
 }
 

@@ -3,7 +3,7 @@
 //! is a tag and then its values at places of their own, 0 where not in use.
 use model::{Character, Format, Rx, State, Tx};
 
-pub const LENGTH: usize = 53;
+pub const LENGTH: usize = 56;
 pub type Words = [u64; LENGTH];
 
 /// The greatest number of each place.
@@ -22,6 +22,7 @@ pub const MOST: Words = {
         1, W, 1, 1, 1, // transmit line, bit start, line, clock pin, sck
         1, W, // next clocked edge
         D, D, // tallies
+        H, D, D, // ticks left, system cycles, watch cycles
     ]
 };
 
@@ -29,12 +30,15 @@ pub const MOST: Words = {
 pub const HALF: usize = 14;
 
 /// Where the holding place, the sender, the receiver, the lines and the next
-/// clocked edge begin.
+/// clocked edge begin; then the two tallies, and the ticks left, after which
+/// come the cycles of both clocks.
 const HOLDING: usize = 17;
 const SENDER: usize = 19;
 const RECEIVER: usize = 31;
 const LINES: usize = 44;
 const EDGE: usize = 49;
+const TALLIES: usize = 51;
+const REMAINING: usize = 53;
 
 fn due(words: &mut [u64], half: Option<u32>) {
     if let Some(half) = half {
@@ -141,8 +145,11 @@ pub fn encode(s: &State) -> Words {
     words[LINES + 3] = s.input_clock.into();
     words[LINES + 4] = s.sck.into();
     due(&mut words[EDGE..], s.sync_next);
-    words[EDGE + 2] = s.transmitted;
-    words[EDGE + 3] = s.received;
+    words[TALLIES] = s.transmitted;
+    words[TALLIES + 1] = s.received;
+    words[REMAINING] = s.remaining.into();
+    words[REMAINING + 1] = s.system;
+    words[REMAINING + 2] = s.watch;
     words
 }
 
@@ -265,7 +272,10 @@ pub fn read(words: &Words) -> State {
         input_clock: bit(LINES + 3),
         sck: bit(LINES + 4),
         sync_next: due(EDGE),
-        transmitted: words[EDGE + 2],
-        received: words[EDGE + 3],
+        transmitted: words[TALLIES],
+        received: words[TALLIES + 1],
+        remaining: words[REMAINING] as u16,
+        system: words[REMAINING + 1],
+        watch: words[REMAINING + 2],
     }
 }

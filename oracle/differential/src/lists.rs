@@ -10,8 +10,8 @@ use model::{
 pub type Profile = fn(&mut List);
 
 /// The profiles. Their order is part of what a seed gives, and with it of the
-/// replay list; the benchmarks leave out the last.
-pub const PROFILES: [(&str, Profile); 11] = [
+/// replay list.
+pub const PROFILES: [(&str, Profile); 14] = [
     ("uniform", uniform),
     ("anything", anything),
     ("sending", sending),
@@ -23,7 +23,12 @@ pub const PROFILES: [(&str, Profile); 11] = [
     ("mode switches", mode_switches),
     ("power", power),
     ("refusals", refusals),
+    ("cycles", in_cycles),
+    ("cycles and halves", in_both),
+    ("counting", counting),
 ];
+/// The first so many pass no cycles, and few of their calls are refused.
+pub const IN_HALVES: usize = 10;
 
 /// The list of a seed, and the name of its profile.
 pub fn list(seed: u64) -> (&'static str, Vec<Command>) {
@@ -52,14 +57,15 @@ pub fn of_profile(profile: usize, seed: u64) -> Vec<Command> {
     list.calls
 }
 
-/// Each wait of a word's length or less as single halves.
+/// Each wait of a word's length or less as single halves, and as many cycles
+/// as single ones.
 pub fn halves_apart(calls: Vec<Command>) -> Vec<Command> {
     let single = |c: Command| match c {
         Command {
-            kind: 3,
+            kind: 3 | 8 | 9,
             a: 2..=450,
-            b,
-        } => vec![Command { kind: 3, a: 1, b }; c.a as usize],
+            ..
+        } => vec![Command { a: 1, ..c }; c.a as usize],
         _ => vec![c],
     };
     calls.into_iter().flat_map(single).collect()
@@ -472,8 +478,173 @@ fn refusals(l: &mut List) {
     }
 }
 
-/// Kinds that are none of the seven.
-pub const UNKNOWN: [u32; 6] = [0, 8, 9, 255, 256 + 1, u32::MAX];
+/// Cycles for each wait of halves: of the clock that SMR chooses, and about as
+/// many as make the halves. Long ones are cut short, since a half may take
+/// 16,384 cycles.
+struct Cycles {
+    smr: u8,
+    brr: u8,
+}
+
+impl Cycles {
+    /// After a call that was accepted; what no call here looks at is left out.
+    fn follow(&mut self, c: Command) {
+        match c {
+            Command {
+                kind: 2, a: SMR, b, ..
+            } => self.smr = b as u8,
+            Command {
+                kind: 2, a: BRR, b, ..
+            } => self.brr = b as u8,
+            Command { kind: 6, a, .. } if a & 1 == 0 || a & 8 != 0 => {
+                (self.smr, self.brr) = (0, 255);
+            }
+            _ => {}
+        }
+    }
+    /// The kind of the chosen clock's cycles, and how many make a half.
+    fn half(&self) -> (u32, u32) {
+        let (kind, divider) = [(8, 1), (9, 1), (8, 16), (8, 64)][usize::from(self.smr & 3)];
+        (kind, divider * (u32::from(self.brr) + 1))
+    }
+    fn of(&self, halves: u32, r: &mut Random) -> Command {
+        let (kind, each) = self.half();
+        let most = if r.one_in(400) { 0xffff } else { 1500 };
+        let a = match r.below(16) {
+            0 => halves * each + r.below(each + 1),
+            1 => (halves * each).saturating_sub(1 + r.below(each)),
+            _ => halves * each,
+        };
+        let kind = if r.one_in(40) { 17 - kind } else { kind };
+        Command {
+            kind,
+            a: a.min(most),
+            b: 0,
+        }
+    }
+}
+
+/// A list of another profile with waits turned into cycles: all, or one in so
+/// many left as it is.
+fn turned(l: &mut List, left: u32) {
+    let profile = l.r.below(IN_HALVES as u32) as usize;
+    (PROFILES[profile].1)(l);
+    let mut cycles = Cycles { smr: 0, brr: 255 };
+    for c in std::mem::take(&mut l.calls) {
+        cycles.follow(c);
+        let whole = left > 0 && l.r.below(left) == 0;
+        match c.kind {
+            3 if !whole => {
+                let c = cycles.of(c.a.min(0xffff), &mut l.r);
+                l.calls.push(c);
+            }
+            // Counts short enough for many halves.
+            6 if c.a & 9 == 1 && l.r.bit() => {
+                l.calls.push(c);
+                let brr = l.r.pick(&[0, 0, 0, 0, 1, 1, 2, 9]);
+                l.write(BRR, brr);
+                cycles.brr = brr as u8;
+            }
+            _ => l.calls.push(c),
+        }
+    }
+}
+
+/// Work in cycles alone, so that the port stands on the counters throughout.
+fn in_cycles(l: &mut List) {
+    turned(l, 0);
+}
+
+fn in_both(l: &mut List) {
+    turned(l, 2);
+    for _ in 0..l.r.below(12) {
+        let at = l.r.below(l.calls.len() as u32 + 1) as usize;
+        let c = sample::cycles(&mut l.r);
+        l.calls.insert(at, c);
+    }
+}
+
+/// The count itself: each choice and each BRR, written with TE and RE on and
+/// off, to the last cycle before a half, to the half and beyond; stops, resets,
+/// the external clock and cycles of the other clock between.
+fn counting(l: &mut List) {
+    let power = l.r.pick(&[3, 3, 7]);
+    l.call(6, power, 0);
+    let mut cycles = Cycles { smr: 0, brr: 255 };
+    for _ in 0..40 + l.r.below(80) {
+        let before = l.calls.len();
+        counted(l, &cycles);
+        for c in &l.calls[before..] {
+            cycles.follow(*c);
+        }
+    }
+}
+
+/// One turn of it.
+fn counted(l: &mut List, cycles: &Cycles) {
+    let (kind, each) = cycles.half();
+    match l.r.below(24) {
+        0..7 => {
+            let choice = l.r.below(4);
+            l.write(SMR, choice);
+            let brr = l.byte();
+            l.write(BRR, brr);
+            let now = Cycles {
+                smr: choice as u8,
+                brr: brr as u8,
+            };
+            let (kind, each) = now.half();
+            l.call(kind, each - 1, 0);
+            l.call(kind, 1, 0);
+        }
+        7 | 8 => {
+            let scr = l.r.pick(&[0x00, 0x00, 0x10, 0x20, 0x30, 0x02]);
+            l.write(SCR, scr);
+        }
+        9 => {
+            let choice = l.r.below(4);
+            l.write(SMR, choice);
+        }
+        10 => {
+            let brr = l.byte();
+            l.write(BRR, brr);
+        }
+        // The same value again, which restarts the count too.
+        11 => l.write(BRR, cycles.brr.into()),
+        12 => l.call(17 - kind, 1 + each % 70, 0),
+        13 => {
+            let bits = l.r.pick(&[1, 3, 3, 5, 7]);
+            l.call(6, bits, 0);
+        }
+        14 if l.r.one_in(3) => {
+            let bits = l.r.pick(&[0, 2, 9, 11]);
+            l.call(6, bits, 0);
+            l.call(kind, 1, 0);
+            l.call(6, 3, 0);
+        }
+        15 => l.call(7, 0, 0),
+        16 => l.call(kind, 0, 0),
+        17 => {
+            let (clock, line) = (l.r.below(2), l.r.below(2));
+            l.call(5, clock, line);
+        }
+        // From anywhere in a count to the half, one before and one behind it.
+        18..21 if each < 2000 => {
+            let some = l.r.below(each);
+            l.call(kind, some, 0);
+            l.call(kind, (each - some).saturating_sub(1), 0);
+            l.call(kind, 1, 0);
+            l.call(kind, 1, 0);
+        }
+        _ => {
+            let c = sample::cycles(&mut l.r);
+            l.calls.push(c);
+        }
+    }
+}
+
+/// Kinds that are none of the nine.
+pub const UNKNOWN: [u32; 6] = [0, 10, 11, 255, 256 + 1, u32::MAX];
 
 /// A call with something wrong, or just not wrong.
 pub fn refused(r: &mut Random) -> Command {
@@ -490,7 +661,7 @@ pub fn refused(r: &mut Random) -> Command {
         _ => beyond(r, 0xffff),
     };
     let any = r.byte().into();
-    let (kind, a, b) = match r.below(12) {
+    let (kind, a, b) = match r.below(13) {
         0 => (1, address(r), any),
         1 | 2 => (2, address(r), beyond(r, 255)),
         3 => (2, IRCR, r.byte().into()),
@@ -501,6 +672,16 @@ pub fn refused(r: &mut Random) -> Command {
         8 => (5, r.below(2), beyond(r, 1)),
         9 => (6, beyond(r, 15), any),
         10 => (7, any, any),
+        // In range it is seldom long: each cycle is stepped.
+        11 => {
+            let n = match r.below(8) {
+                0 if r.one_in(4) => 0xffff,
+                0 | 1 => u32::MAX,
+                2..5 => 0x1_0000,
+                _ => r.below(40),
+            };
+            (r.pick(&[8, 9]), n, any)
+        }
         _ => (r.pick(&UNKNOWN), any, any),
     };
     Command { kind, a, b }

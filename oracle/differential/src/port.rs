@@ -15,6 +15,11 @@ pub struct Pins {
 pub trait Port {
     fn fresh(&mut self);
     fn set(&mut self, state: &State);
+    /// Told before them which calls are to come; the oracle chooses its clocks
+    /// by it.
+    fn prepare(&mut self, _: &[Command]) -> Result<(), String> {
+        Ok(())
+    }
     fn state(&self) -> Result<State, String>;
     fn call(&mut self, call: Command) -> Result<Answer, String>;
     fn pins(&self) -> Result<Pins, String>;
@@ -52,6 +57,10 @@ impl Port for OraclePort {
     }
     fn set(&mut self, state: &State) {
         self.0 = Oracle::from_state(state);
+    }
+    fn prepare(&mut self, calls: &[Command]) -> Result<(), String> {
+        let kinds = calls.iter().map(|call| call.kind);
+        self.0.prepare(kinds).map_err(|fault| fault.to_string())
     }
     fn state(&self) -> Result<State, String> {
         self.0.try_state().map_err(|fault| fault.to_string())

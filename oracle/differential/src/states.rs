@@ -5,9 +5,10 @@ use crate::{
     lists::{UNKNOWN, halves_apart, refused},
 };
 use model::{
-    Command, Format, LIMIT, State, Tx, failed_clauses,
-    registers::{RDR, SCR, SMR, SSR, TDR},
+    CYCLES, Clock, Command, Format, LIMIT, State, Tx, choice, failed_clauses,
+    registers::{BRR, RDR, SCR, SMR, SSR, TDR},
     sample::{self, Random},
+    total,
 };
 
 /// The furthest from the limit that a near state stands.
@@ -81,9 +82,108 @@ fn dues(s: &State) -> Vec<u32> {
         .collect()
 }
 
+/// The kind of a clock's cycles.
+fn kind_of(clock: Clock) -> u32 {
+    match clock {
+        Clock::System => 8,
+        Clock::Watch => 9,
+    }
+}
+
+/// The cycles of the chosen clock up to so many halves from now, if the port
+/// counts.
+fn up_to(s: &State, halves: u32) -> u64 {
+    let (clock, divider) = choice(s);
+    let Some(more) = halves.checked_sub(1) else {
+        return 0;
+    };
+    let ticks = u64::from(s.remaining) + u64::from(more) * (u64::from(s.brr) + 1);
+    ticks * divider - total(s, clock) % divider
+}
+
+/// Cycles aimed at a half of the state, at one that is due, or at the greatest
+/// total; one fewer, just so, or one more.
+fn aimed_cycles(r: &mut Random, s: &State) -> Command {
+    let (clock, _) = choice(s);
+    let (clock, to) = match r.below(8) {
+        0 => {
+            let clock = r.pick(&[Clock::System, Clock::Watch]);
+            (clock, CYCLES - total(s, clock))
+        }
+        1..4 => {
+            let halves = match dues(s).as_slice() {
+                [] => 2,
+                dues => r.pick(dues) - s.half,
+            };
+            (clock, up_to(s, halves))
+        }
+        4 => (clock, up_to(s, 2)),
+        _ => (clock, up_to(s, 1)),
+    };
+    let near = (to + u64::from(r.below(3))).saturating_sub(1);
+    // A long one is dear, so it is rare.
+    let most = if r.one_in(64) { 0xffff } else { 1000 };
+    Command {
+        kind: kind_of(clock),
+        a: near.min(most) as u32,
+        b: 0,
+    }
+}
+
+/// Near both limits or one: cycles up to the greatest total and past it, and
+/// up to the greatest half count and past it.
+fn near_in_cycles(r: &mut Random, s: &mut State) -> Vec<Command> {
+    let halves = r.below(4);
+    *s = moved(s, LIMIT - halves);
+    if !r.one_in(8) {
+        s.brr = r.below(8) as u8;
+        s.remaining = 1 + r.below(20) as u16;
+    }
+    let (clock, _) = choice(s);
+    let to = up_to(s, halves);
+    let (kind, to) = match r.below(4) {
+        // The greatest total just there, before it or behind it.
+        0 | 1 => {
+            let most = CYCLES - (to + u64::from(r.below(3))).saturating_sub(1);
+            match clock {
+                Clock::System => s.system = most,
+                Clock::Watch => s.watch = most,
+            }
+            (kind_of(clock), up_to(s, halves))
+        }
+        2 => {
+            let (left, clock) = (r.below(200), r.pick(&[Clock::System, Clock::Watch]));
+            match clock {
+                Clock::System => s.system = CYCLES - u64::from(left),
+                Clock::Watch => s.watch = CYCLES - u64::from(left),
+            }
+            (kind_of(clock), left.into())
+        }
+        _ => (kind_of(clock), to),
+    };
+    let beyond = up_to(s, halves + 1);
+    // Above its range, 2 comes before 10 and 4.
+    let above = if r.one_in(4) { 0x1_0000 } else { to };
+    let mut tries = vec![
+        above,
+        to,
+        to + 1,
+        to.saturating_sub(1),
+        beyond.saturating_sub(1),
+        beyond,
+    ];
+    tries.retain(|_| r.bit());
+    let call = |n: u64| Command {
+        kind,
+        a: n.min(0x1_0000) as u32,
+        b: 0,
+    };
+    tries.into_iter().map(call).collect()
+}
+
 /// A call aimed at what the state holds.
 fn aimed(r: &mut Random, s: &State) -> Command {
-    let (kind, a, b) = match r.below(16) {
+    let (kind, a, b) = match r.below(20) {
         0..4 => {
             let halves = match dues(s).as_slice() {
                 [] => 1 + r.below(40),
@@ -100,6 +200,8 @@ fn aimed(r: &mut Random, s: &State) -> Command {
         12 => (6, r.below(16), 0),
         13 => (1, r.pick(&[SSR, RDR]), 0),
         14 => (4, r.below(2), 0),
+        15 => (2, BRR, r.pick(&[s.brr, r.clone().byte()]).into()),
+        16..19 => return aimed_cycles(r, s),
         _ => return sample::call(r),
     };
     Command { kind, a, b }
@@ -151,6 +253,9 @@ pub fn given(seed: u64) -> Case {
             }
         }
     }
+    if calls.is_empty() && r.one_in(8) {
+        calls = near_in_cycles(r, &mut s);
+    }
     let more = match r.below(4) {
         0 => r.below(12),
         1 if !calls.is_empty() => 0,
@@ -163,7 +268,7 @@ pub fn given(seed: u64) -> Case {
             _ => aimed(r, &s),
         });
     }
-    let short = |c: &Command| c.kind != 3 || c.a < 40;
+    let short = |c: &Command| !matches!(c.kind, 3 | 8 | 9) || c.a < 40;
     if r.bit() && calls.iter().all(short) {
         calls = halves_apart(calls);
     }
@@ -176,7 +281,7 @@ pub fn given(seed: u64) -> Case {
 type Break = fn(&mut Random, &mut State);
 
 /// Ways to break one clause, each a field of its own.
-pub const BREAKS: [(&str, Break); 37] = [
+pub const BREAKS: [(&str, Break); 43] = [
     ("half count past the limit", |r, s| {
         let past = LIMIT + 1 + r.below(100_000_000);
         *s = moved(s, past);
@@ -356,6 +461,26 @@ pub const BREAKS: [(&str, Break); 37] = [
             rx.next = if rx.next.is_some() { None } else { due };
         }
     }),
+    ("no ticks left", |_, s| s.remaining = 0),
+    ("257 ticks left", |_, s| s.remaining = 257),
+    ("more than 257 ticks left", |r, s| {
+        s.remaining = r.pick(&[258, 511, 512, 0x7fff, 0xff01, 0xffff]);
+    }),
+    ("system cycles one past the limit", |_, s| {
+        s.system = CYCLES + 1;
+    }),
+    ("watch cycles one past the limit", |_, s| {
+        s.watch = CYCLES + 1
+    }),
+    ("cycles past the limit", |r, s| {
+        let past = CYCLES << r.below(16) | 1 << r.below(48);
+        let past = r.pick(&[past, u64::MAX]);
+        if r.bit() {
+            s.system = past;
+        } else {
+            s.watch = past;
+        }
+    }),
 ];
 
 fn any_byte(r: &mut Random, but: &[u8]) -> u8 {
@@ -394,7 +519,7 @@ fn sender_due(s: &mut State) -> Option<&mut u32> {
 }
 
 /// A state that fails exactly one clause, how it was broken, and calls on it
-/// of every kind, right and wrong, and of a kind that is none of the seven.
+/// of every kind, right and wrong, and of a kind that is none of the nine.
 pub fn failing(seed: u64) -> (usize, Case) {
     let r = &mut Random::new(seed);
     let broken = r.below(BREAKS.len() as u32) as usize;
@@ -405,7 +530,7 @@ pub fn failing(seed: u64) -> (usize, Case) {
             break s;
         }
     };
-    let mut calls: Vec<Command> = (1..=7).map(|kind| Command { kind, a: 0, b: 0 }).collect();
+    let mut calls: Vec<Command> = (1..=9).map(|kind| Command { kind, a: 0, b: 0 }).collect();
     calls.extend((0..3).map(|_| sample::call(r)));
     calls.extend((0..3).map(|_| refused(r)));
     // 8 is tested first, so it comes before 7 too.

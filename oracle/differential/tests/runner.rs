@@ -121,8 +121,8 @@ fn arrays_that_are_no_state() {
     let mut words = encode(&fresh());
     assert_eq!(within(&words), Some(words));
     let all = no_states(&words);
-    // 64 lengths; the two tallies have no number above their greatest.
-    assert_eq!(all.len(), 64 + 3 * 51);
+    // 67 lengths; the tallies and totals have no number above their greatest.
+    assert_eq!(all.len(), 67 + 3 * 52);
     for (what, array) in all {
         assert!(within(&array).is_none(), "{what}");
         if let Ok(words) = Words::try_from(array) {

@@ -31,6 +31,7 @@ fn players_agree_and_all_is_reached() {
     for walk in gate(60_000, SEED) {
         let thin = match walk.part {
             Part::Three => walk.every(31),
+            Part::Cycles => walk.every(5),
             _ => walk,
         };
         let outcome = run(&right, &thin, None, 2);
@@ -56,7 +57,7 @@ fn every_wrong_player_is_reported() {
 /// report, and the number that the report prints gives the same difference.
 #[test]
 fn runs_are_the_same_again() {
-    for wrong in Wrong::ALL.iter().step_by(6) {
+    for wrong in Wrong::ALL.iter().step_by(8) {
         let make =
             || -> Box<dyn Player> { Box::new(CallsPlayer::wrong(OraclePort::default(), *wrong)) };
         let walks = trial(100_000, SEED);
@@ -97,6 +98,20 @@ fn short_scripts_are_all() {
         let value = script.iter().rev().fold(0, |v, b| v << 8 | u64::from(*b));
         assert_eq!((script.len(), value), (3, number));
     }
+}
+
+/// As many scripts of cycles as there are lists of at most five commands.
+#[test]
+fn orders_of_cycles_are_all() {
+    let ground = Ground::default();
+    let walk = Walk::whole(Part::Cycles);
+    assert_eq!(walk.end, (14_u64.pow(6) - 1) / 13);
+    let all: HashSet<_> = (walk.first..walk.end)
+        .map(|number| ground.case(Part::Cycles, number).1.script)
+        .collect();
+    assert_eq!(all.len() as u64, walk.end);
+    let script = "06 03 02 99 FF 03 01 08 01 02 98 FF 03 03 02 9A FF 03 20 08 3F 06 00";
+    assert!(all.contains(&bytes(script)));
 }
 
 /// As many scripts of resets as there are lists of at most six commands.
@@ -157,7 +172,7 @@ fn examples() {
         ("02 A7 FF 03 80 01", LOG, 3, 0, 0, 0),
         ("03", LOG, 5, 0, 0, 0),
         ("80 00", LOG, 6, 0, 0, 0),
-        ("08", LOG, 7, 0, 0, 0),
+        ("0A", LOG, 7, 0, 0, 0),
         ("07", 4, 9, 0, 0, 0),
         ("07", 5, 0, 0, 5, 0),
         ("07 07", 9, 9, 1, 5, 0),
@@ -167,7 +182,12 @@ fn examples() {
         ("06 03 03 05 06 00 06 03 03 07", LOG, 0, 0, 25, 12),
         ("06 03 03 05 06 0B", LOG, 0, 0, 15, 5),
         (LENGTH_OF_PINS, LOG, 0, 0, 25, 2),
-        ("06 03 03 05 06 00 08", LOG, 7, 6, 15, 5),
+        ("06 03 03 05 06 00 0A", LOG, 7, 6, 15, 5),
+        // Two: cycles, and a length that counts their halves.
+        ("08 80 80 04", LOG, 2, 0, 0, 0),
+        ("08", LOG, 5, 0, 0, 0),
+        ("06 03 08 80 02 03 01 06 00", LOG, 0, 0, 20, 2),
+        ("06 03 02 99 FF 03 00 08 FF FF 03", LOG, 0, 0, 15, 65_535),
     ];
     for (script, room, number, offset, written, length) in cases {
         let mut log = vec![0; room];

@@ -1,10 +1,12 @@
-//! Refusal 8: document 01's field test, clause by clause in its order. The
-//! reference has no such test (its `validate` asks less).
+//! Refusal 8: the field test of document 01, clause by clause in its order,
+//! and of document 02. The reference has no such test (its `validate` asks less).
 use crate::frame::{exists, holds};
 use reference::{Character, State, Tx};
 
 /// The greatest half count.
 pub const LIMIT: u32 = 4_000_000_000;
+/// The greatest total of a clock's cycles.
+pub const CYCLES: u64 = 281_474_976_710_656;
 /// How far above the half count a due half may lie.
 const REACH: u32 = 448;
 
@@ -28,6 +30,9 @@ pub fn failed_clauses(s: &State) -> impl Iterator<Item = &'static str> {
         (s.bit_start <= s.half, "bit_start"),
         (due_halves(s), "due half"),
         (due_presence(s), "due half present or absent"),
+        ((1..=256).contains(&s.remaining), "ticks left"),
+        (s.system <= CYCLES, "system cycles"),
+        (s.watch <= CYCLES, "watch cycles"),
     ];
     clauses
         .into_iter()

@@ -1,8 +1,13 @@
-//! A port of the reference with its clocks and its time, and the direct
-//! calls of document 01 on it.
+//! A port of the reference on its clocks, and the direct calls of documents 01
+//! and 02 on it. Halves of kind 3 pass on the reference's own clocks, cycles on
+//! the two counters; a call that needs the other clocks moves the port there.
 use crate::registers::SSR;
-use crate::rules::{counting, refusal};
-use reference::{Clocks, Drive, Error, Frequencies, Sci, State, Time};
+use crate::rules::{counting, cycles, refusal};
+use crate::timed::Timed;
+use reference::{
+    AnySci, Clocks, Drive, Error, Frequencies, Sci, State, Time,
+    counters::{self, clocks::Source},
+};
 use std::fmt;
 
 /// One second of the reference's time.
@@ -30,6 +35,8 @@ pub enum Fault {
     State(&'static str),
     /// A half became due where time was to pass inside one.
     Inside,
+    /// The port stands on other clocks than the call needs.
+    Place,
 }
 
 impl From<Error> for Fault {
@@ -52,6 +59,7 @@ impl fmt::Display for Fault {
             }
             Self::State(reason) => write!(f, "no state of document 01: {reason}"),
             Self::Inside => write!(f, "no time left inside the half"),
+            Self::Place => write!(f, "the port stands on other clocks"),
         }
     }
 }
@@ -96,7 +104,7 @@ impl Default for Habits {
     }
 }
 
-/// When clocks and port begin, in the reference's raw time.
+/// When the reference's own clocks and a port on them begin, in raw time.
 #[derive(Clone, Copy, Debug)]
 pub struct Setup {
     pub clocks: u128,
@@ -118,12 +126,30 @@ impl Default for Setup {
     }
 }
 
+/// The clocks that the port stands on.
+#[derive(Clone, Debug)]
+enum Place {
+    Own(Box<Timed<Sci>>),
+    Counters(Box<Timed<counters::sci::Sci>>),
+}
+
+/// The same on either clocks.
+macro_rules! on {
+    ($place:expr, $timed:ident => $what:expr) => {
+        match $place {
+            Place::Own($timed) => $what,
+            Place::Counters($timed) => $what,
+        }
+    };
+}
+
 #[derive(Clone, Debug)]
 pub struct Oracle {
-    sci: Sci,
-    clocks: Clocks,
-    now: Time,
-    habits: Habits,
+    place: Place,
+    setup: Setup,
+    /// Cycles of the system clock and of the watch clock so far. The counters
+    /// hold the same; the reference's own clocks do not pass by cycles.
+    totals: [u64; 2],
     drained: usize,
     counted: u64,
 }
@@ -140,7 +166,7 @@ impl Oracle {
         Self::fresh_with(Setup::default())
     }
     pub fn fresh_with(setup: Setup) -> Self {
-        Self::with(setup, |_, _| Sci::default())
+        Self::at(own(setup, |_, _| Sci::default()), setup, [0; 2])
     }
     /// A port in a given state. One that fails the field test is kept as it
     /// is, and every call on it is refused with 8.
@@ -148,41 +174,88 @@ impl Oracle {
         Self::from_state_with(state, Setup::default())
     }
     pub fn from_state_with(state: &State, setup: Setup) -> Self {
-        Self::with(setup, |now, clocks| {
+        let place = own(setup, |now, clocks| {
             Sci::oracle_from_state(state, now, clocks)
-        })
+        });
+        Self::at(place, setup, [state.system, state.watch])
     }
-    fn with(setup: Setup, sci: impl FnOnce(Time, &Clocks) -> Sci) -> Self {
-        let clocks = Clocks::new(Time::from_raw(setup.clocks), Frequencies::default())
-            .expect("the reference's own frequencies make clocks");
-        let now = Time::from_raw(setup.port);
-        Self {
-            sci: sci(now, &clocks),
+    /// A fresh port on counters whose revision never changes, which are no
+    /// clocks that the reference can be trusted with: finding 1.
+    pub fn fresh_on_standing_revision() -> Self {
+        let clocks = counters::clocks::Clocks::with_standing_revision();
+        let timed = Timed {
+            sci: counters::sci::Sci::default(),
+            now: clocks.now(),
             clocks,
-            now,
-            habits: setup.habits,
+        };
+        Self::at(Place::Counters(timed.into()), Setup::default(), [0; 2])
+    }
+    fn at(place: Place, setup: Setup, totals: [u64; 2]) -> Self {
+        Self {
+            place,
+            setup,
+            totals,
             drained: 0,
             counted: 0,
         }
     }
 
-    /// The state that document 01 keeps.
+    /// Told before them which kinds of calls are to come. Where there are
+    /// cycles and no kind 3 the port stands on the counters from the first call
+    /// to the last, so that all is the reference's.
+    pub fn prepare(&mut self, kinds: impl Iterator<Item = u32>) -> Result<(), Fault> {
+        let mut with_cycles = false;
+        for kind in kinds {
+            if kind == 3 {
+                return Ok(());
+            }
+            with_cycles |= cycles(kind).is_some();
+        }
+        if with_cycles {
+            self.move_to_counters(&self.try_state()?);
+        }
+        Ok(())
+    }
+    /// The port made anew on the counters, unless it is there.
+    fn move_to_counters(&mut self, state: &State) {
+        if matches!(self.place, Place::Own(_)) {
+            let clocks = counters::clocks::Clocks::new(self.totals);
+            let now = clocks.now();
+            let sci = counters::sci::Sci::oracle_from_state(state, now, &clocks);
+            self.place = Place::Counters(Timed { sci, clocks, now }.into());
+        }
+    }
+    /// The port made anew on the reference's own clocks, unless it is there.
+    fn move_to_own(&mut self, state: &State) {
+        if matches!(self.place, Place::Counters(_)) {
+            self.place = own(self.setup, |now, clocks| {
+                Sci::oracle_from_state(state, now, clocks)
+            });
+        }
+    }
+
+    /// The state that documents 01 and 02 keep.
     pub fn state(&self) -> State {
         self.try_state().unwrap_or_else(|fault| panic!("{fault}"))
     }
     pub fn try_state(&self) -> Result<State, Fault> {
-        self.sci.oracle_state(self.now).map_err(Fault::State)
+        on!(&self.place, t => t.sci.oracle_state(t.now, &t.clocks, self.totals))
+            .map_err(Fault::State)
     }
     /// SSR as it stands; unlike a read it marks nothing as seen.
     pub fn ssr(&self) -> u8 {
-        self.sci.peek(SSR as u16)
+        on!(&self.place, t => t.sci.peek(SSR as u16))
+    }
+    /// Clock pin, transmit pin, whether the receive pin is taken.
+    fn pins(&self) -> (Option<Drive>, Option<bool>, bool) {
+        on!(&self.place, t => t.sci.oracle_pins())
     }
     /// The transmit level: 0, 1, or 2 when not driven.
     pub fn level(&self) -> u8 {
-        self.sci.pins().transmit.map_or(2, u8::from)
+        self.pins().1.map_or(2, u8::from)
     }
     pub fn clock_drive(&self) -> ClockDrive {
-        match self.sci.pins().clock {
+        match self.pins().0 {
             None => ClockDrive::Free,
             Some(Drive::Floating) => ClockDrive::Floating,
             Some(Drive::Low) => ClockDrive::Low,
@@ -191,14 +264,17 @@ impl Oracle {
     }
     /// Whether the port takes the receive pin.
     pub fn receive_enable(&self) -> bool {
-        self.sci.pins().receive
+        self.pins().2
     }
     pub fn interrupt(&self) -> bool {
-        self.sci.interrupt()
+        on!(&self.place, t => t.sci.interrupt())
     }
     /// Whether the clock pin shows what document 01 leaves free.
     pub fn glitch(&self) -> bool {
-        self.sci.oracle_glitch()
+        on!(&self.place, t => t.sci.oracle_glitch())
+    }
+    fn half_count(&self) -> u64 {
+        on!(&self.place, t => t.sci.oracle_half())
     }
     /// How many transmit changes were taken from the optical log so far.
     pub fn drained(&self) -> usize {
@@ -212,7 +288,7 @@ impl Oracle {
     }
     /// The reference's own test of its state.
     pub fn validate(&self) -> Result<(), Error> {
-        self.sci.oracle_validate(self.now)
+        on!(&self.place, t => t.sci.oracle_validate(t.now))
     }
 
     /// One direct call; an operand that the kind does not have is ignored. A
@@ -236,15 +312,20 @@ impl Oracle {
         a: u32,
         b: u32,
     ) -> Result<u8, Fault> {
-        let reference = self.sci.oracle_counting();
+        match kind {
+            3 => self.move_to_own(state),
+            8 | 9 => self.move_to_counters(state),
+            _ => {}
+        }
+        let reference = on!(&self.place, t => t.sci.oracle_counting());
         if counting(state) != reference {
             return Err(Fault::Counting { reference });
         }
-        let (half, counted) = (self.sci.oracle_half(), self.counted);
+        let (half, counted) = (self.half_count(), self.counted);
         let answer = self.perform(reference, kind, a, b)?;
         self.tidy();
         // What was counted is all that moved the half count but a reset.
-        let to = self.sci.oracle_half();
+        let to = self.half_count();
         let from = half + self.counted.wrapping_sub(counted);
         if to != from && (kind, to) != (6, 0) {
             return Err(Fault::Moved { from, to });
@@ -254,80 +335,102 @@ impl Oracle {
 
     /// Operands are in range, so each fits the type it is cast to.
     fn perform(&mut self, counting: bool, kind: u32, a: u32, b: u32) -> Result<u8, Fault> {
-        let (now, clocks) = (self.now, &self.clocks);
         match kind {
-            1 => return Ok(self.sci.read(a as u16)),
-            2 => self.sci.write(a as u16, b as u8, now, clocks)?,
+            1 => return Ok(on!(&mut self.place, t => t.sci.read(a as u16))),
+            2 => on!(&mut self.place, t => t.write(a as u16, b as u8))?,
             3 if counting => {
                 for _ in 0..a {
                     self.half()?;
                 }
             }
             3 if a > 0 => self.inside()?,
-            4 => {
-                self.sci.input_pins(None, a != 0, now, clocks)?;
-            }
+            4 => on!(&mut self.place, t => t.input_pins(None, a != 0))?,
             5 => {
-                let from = self.sci.oracle_half();
-                self.sci.input_pins(Some(a != 0), b != 0, now, clocks)?;
+                let from = self.half_count();
+                on!(&mut self.place, t => t.input_pins(Some(a != 0), b != 0))?;
                 self.count(from);
             }
-            6 => {
-                let bit = |mask| a & mask != 0;
-                self.sci
-                    .set_power(bit(1), bit(2), bit(4), bit(8), now, clocks)?;
-            }
+            6 => on!(&mut self.place, t => t.set_power(a))?,
             7 => self.inside()?,
+            8 | 9 => {
+                for _ in 0..a {
+                    self.cycle(kind)?;
+                }
+            }
             _ => {}
         }
         Ok(0)
     }
-    /// One half: the reference is advanced at the half's edge.
+    /// One half on the reference's own clocks.
     fn half(&mut self) -> Result<(), Fault> {
-        let from = self.sci.oracle_half();
-        let edge = self.sci.oracle_next_edge(&self.clocks)?;
-        self.now = edge.ok_or(Fault::Counting { reference: false })?;
-        let (now, clocks) = (self.now, &self.clocks);
-        match self.habits.pass {
-            Pass::Reference => self.sci.advance(now, clocks)?,
-            Pass::WithoutExtraPass => self.sci.oracle_advance_without_extra_pass(now, clocks)?,
-            Pass::EdgeFirst => self.sci.oracle_advance_edge_first(now, clocks)?,
-            Pass::ReceiverFirst => self.sci.oracle_advance_receiver_first(now, clocks)?,
+        let from = self.half_count();
+        let Place::Own(timed) = &mut self.place else {
+            return Err(Fault::Place);
+        };
+        timed.half(self.setup.habits.pass)?;
+        self.tidy();
+        self.one(from)
+    }
+    /// One cycle on the counters.
+    fn cycle(&mut self, kind: u32) -> Result<(), Fault> {
+        let from = self.half_count();
+        let Place::Counters(timed) = &mut self.place else {
+            return Err(Fault::Place);
+        };
+        let (source, total) = match kind {
+            8 => (Source::System, &mut self.totals[0]),
+            _ => (Source::Watch, &mut self.totals[1]),
+        };
+        *total += 1;
+        if !timed.cycle(source)? {
+            return Ok(());
         }
         self.tidy();
-        let to = self.sci.oracle_half();
-        if to == from + 1 {
-            self.count(from);
-            Ok(())
-        } else {
-            Err(Fault::Counted { from, to })
+        self.one(from)
+    }
+    /// The reference counted just one half.
+    fn one(&mut self, from: u64) -> Result<(), Fault> {
+        let to = self.half_count();
+        if to != from + 1 {
+            return Err(Fault::Counted { from, to });
         }
+        self.count(from);
+        Ok(())
     }
     /// What the half count gained since it was this.
     fn count(&mut self, from: u64) {
-        let gained = self.sci.oracle_half().wrapping_sub(from);
+        let gained = self.half_count().wrapping_sub(from);
         self.counted = self.counted.wrapping_add(gained);
     }
     /// Time moves by its least step, and no half may become due by it.
     fn inside(&mut self) -> Result<(), Fault> {
-        let later = Time::from_raw(self.now.raw() + 1);
-        if self
-            .sci
-            .oracle_next_edge(&self.clocks)?
-            .is_some_and(|edge| edge <= later)
-        {
-            return Err(Fault::Inside);
+        on!(&mut self.place, t => t.step());
+        match on!(&self.place, t => t.due()) {
+            true => Err(Fault::Inside),
+            false => Ok(()),
         }
-        self.now = later;
-        Ok(())
     }
     /// What the board around the port would do.
     fn tidy(&mut self) {
-        if self.habits.drain {
-            self.drained += self.sci.oracle_drain();
+        let habits = self.setup.habits;
+        if habits.drain {
+            self.drained += on!(&mut self.place, t => t.sci.oracle_drain());
         }
-        if self.habits.end_glitch {
-            self.sci.oracle_end_glitch();
+        if habits.end_glitch {
+            on!(&mut self.place, t => t.sci.oracle_end_glitch());
         }
     }
+}
+
+/// On the reference's own clocks.
+fn own(setup: Setup, sci: impl FnOnce(Time, &Clocks) -> Sci) -> Place {
+    let clocks = Clocks::new(Time::from_raw(setup.clocks), Frequencies::default())
+        .expect("the reference's own frequencies make clocks");
+    let now = Time::from_raw(setup.port);
+    let timed = Timed {
+        sci: sci(now, &clocks),
+        clocks,
+        now,
+    };
+    Place::Own(timed.into())
 }

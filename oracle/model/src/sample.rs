@@ -1,5 +1,5 @@
 //! Random calls and random states that pass the field test, by seed.
-use crate::field_test::LIMIT;
+use crate::field_test::{CYCLES, LIMIT};
 use crate::frame::{format, stop, word};
 use crate::registers::{ADDRESSES, IRCR, RDR, SCR, SEMR, SMR, SPCR, SSR, TDR};
 use crate::script::Command;
@@ -99,6 +99,24 @@ pub fn call(r: &mut Random) -> Command {
     Command { kind, a, b }
 }
 
+/// Cycles of one of the two clocks, about the dividers and the greatest count.
+pub fn cycles(r: &mut Random) -> Command {
+    let n = match r.below(12) {
+        0 => 0,
+        1 | 2 => 1,
+        3 => r.pick(&[15, 16, 17, 63, 64, 65]),
+        4 => r.pick(&[255, 256, 257]),
+        5 => r.below(1000),
+        6 if r.one_in(40) => r.below(65_536),
+        _ => 1 + r.below(40),
+    };
+    Command {
+        kind: if r.one_in(3) { 9 } else { 8 },
+        a: n,
+        b: 0,
+    }
+}
+
 /// What brings a fresh port to work: power, a format, both sides on.
 pub fn opening(r: &mut Random) -> Vec<Command> {
     let mut calls = vec![Command {
@@ -184,7 +202,31 @@ fn receiver(r: &mut Random, half: u32) -> Option<Rx> {
     })
 }
 
-/// Any state that passes the field test, with an eye on the limit and on
+/// Ticks left, about a count's beginning and end.
+fn remaining(r: &mut Random, brr: u8) -> u16 {
+    match r.below(8) {
+        0 => 256,
+        1 | 2 => 1,
+        3 => 2,
+        4 => 1 + u16::from(brr),
+        _ => 1 + r.below(256) as u16,
+    }
+}
+
+/// A total of cycles: small, any, about to make a tick of the dividers, and
+/// near its greatest.
+fn total(r: &mut Random) -> u64 {
+    let any = u64::from(r.below(u32::MAX)) << 16;
+    match r.below(8) {
+        0 => CYCLES - u64::from(r.below(70)),
+        1 => CYCLES - u64::from(r.below(70_000)),
+        2 | 3 => any | (63 - u64::from(r.below(3))),
+        4 => any + u64::from(r.below(64)),
+        _ => r.below(200).into(),
+    }
+}
+
+/// Any state that passes the field test, with an eye on the limits and on
 /// tallies about to wrap.
 pub fn state(r: &mut Random) -> State {
     let half = match r.below(8) {
@@ -194,10 +236,11 @@ pub fn state(r: &mut Random) -> State {
         _ => r.below(1000),
     };
     let tally = |r: &mut Random| u64::MAX.wrapping_add(r.below(3).into());
+    let brr = r.byte();
     State {
         spcr: 0xc0 | (r.byte() & 0x13),
         smr: r.byte(),
-        brr: r.byte(),
+        brr,
         scr: r.byte() & 0xf7,
         tdr: r.byte(),
         ssr: r.byte() & if r.bit() { 0xfc } else { 0xc4 },
@@ -223,5 +266,8 @@ pub fn state(r: &mut Random) -> State {
         sync_next: due_perhaps(r, half),
         transmitted: tally(r),
         received: tally(r),
+        remaining: remaining(r, brr),
+        system: total(r),
+        watch: total(r),
     }
 }

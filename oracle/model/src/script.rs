@@ -1,5 +1,5 @@
 //! Scripts: numbers, commands, the player with its log, and the lines that
-//! the program prints. All from document 01.
+//! the program prints. All from documents 01 and 02.
 use crate::field_test::field_test;
 use crate::oracle::{Fault, Oracle};
 use crate::rules::{late_refusal, ranges};
@@ -81,6 +81,16 @@ pub fn decode(script: &[u8], mut at: usize) -> Decoded {
     Ok((Command { kind, a, b }, at))
 }
 
+/// The kinds of the commands that can be read.
+fn kinds(script: &[u8]) -> impl Iterator<Item = u32> {
+    let mut at = 0;
+    std::iter::from_fn(move || {
+        let (command, next) = decode(script, at).ok()?;
+        at = next;
+        Some(command.kind)
+    })
+}
+
 /// What can be read of a script, and where that ends.
 pub fn commands(script: &[u8]) -> (Vec<Command>, usize) {
     let (mut commands, mut at) = (Vec::new(), 0);
@@ -93,6 +103,7 @@ pub fn commands(script: &[u8]) -> (Vec<Command>, usize) {
 
 /// Play a script. The log keeps the records of the commands before a refusal.
 pub fn play(oracle: &mut Oracle, script: &[u8], log: &mut [u8]) -> Result<Run, Fault> {
+    oracle.prepare(kinds(script))?;
     let mut state = oracle.try_state()?;
     let mut at = 0;
     let mut records = 0;

@@ -2,14 +2,20 @@
 //! build.rs): its files as they are, accessors appended to two of them, and
 //! stand-ins for what was not published with it.
 //!
-//! What is ours: the stand-ins, `snapshot`, and the methods whose names begin
-//! with `oracle_`, which build.rs appends to the copies of sci.rs and baud.rs.
+//! The port is compiled twice: in `mcu` on its own clocks, in `counters` on the
+//! stand-in of two counters. `AnySci` is what both have.
+//!
+//! What is ours: the stand-ins, `snapshot`, and what build.rs appends to the
+//! copies of sci.rs and baud.rs: `AnySci`, whose methods beyond the reference's
+//! own begin with `oracle_`.
+mod any;
 mod error;
 mod snapshot;
 mod state;
 
 include!(concat!(env!("OUT_DIR"), "/tree/modules.rs"));
 
+pub use any::AnySci;
 pub use error::Error;
 pub use mcu::clocks::{Clocks, Frequencies};
 pub use mcu::sci::{Pins, Sci};

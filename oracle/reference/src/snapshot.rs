@@ -1,5 +1,5 @@
-//! The port state that document 01 keeps, as plain data. Names follow the
-//! reference; widths follow document 01 (half count and due halves 32 bits).
+//! The port state that documents 01 and 02 keep, as plain data. Names follow
+//! the reference; widths follow document 01 (half count and due halves 32 bits).
 //! Left out: time, light queue, optical log, infrared pulses, `mux_glitch`,
 //! and what follows from the registers (chosen clock, running, external).
 
@@ -101,4 +101,9 @@ pub struct State {
     pub sync_next: Option<u32>,
     pub transmitted: u64,
     pub received: u64,
+    /// Ticks left to the next half.
+    pub remaining: u16,
+    /// Cycles so far of the system clock and of the watch clock.
+    pub system: u64,
+    pub watch: u64,
 }

@@ -64,7 +64,7 @@ fn main() -> ExitCode {
 fn run(options: &Options) -> Result<(), String> {
     match (options.play.as_deref(), options.count.as_deref()) {
         (Some("events"), _) => program::main(Pace::Events),
-        (Some("halves"), _) => program::main(Pace::Halves),
+        (Some("halves"), _) => program::main(Pace::Steps),
         (Some(_), _) => Err(USAGE.into()),
         (None, Some(name)) => {
             let kinds = sides::named(name).ok_or(USAGE)?;

@@ -13,8 +13,9 @@ pub fn cached_edge() -> Vec<Part> {
     let apart = "06 01 02 98 FF 03 02 06 03 06 01 02 99 FF 03 00 02 98 FF 03 00 06 03 03 01";
     let tick_272 = 272 * SECOND / 3_686_400;
     let missed = "stays at half 0";
-    let part = |start: &str, setup: Setup, script: &str, expected: &str| {
-        let mut port = Oracle::fresh_with(setup);
+    // On the counters, which begin together at 0, the first in cycles.
+    let cycles = "06 01 02 98 FF 03 02 06 03 02 98 FF 03 00 08 80 02";
+    let played = |start: &str, mut port: Oracle, script: &str, expected: &str| {
         let met = match run(&mut port, script) {
             Err(Fault::Counted { from, to }) if from == to => format!("stays at half {to}"),
             Err(fault) => fault.to_string(),
@@ -22,7 +23,23 @@ pub fn cached_edge() -> Vec<Part> {
         };
         Part::new(format!("{start}: {script}"), expected, met)
     };
+    let part = |start: &str, setup: Setup, script: &str, expected: &str| {
+        played(start, Oracle::fresh_with(setup), script, expected)
+    };
     vec![
+        played(
+            "counters with one revision",
+            Oracle::fresh_on_standing_revision(),
+            cycles,
+            missed,
+        ),
+        played(
+            "counters with a new revision each time",
+            Oracle::fresh(),
+            cycles,
+            "end 1",
+        )
+        .of(cycles),
         part(
             "clocks and port from 1 s",
             setup(SECOND, SECOND),

@@ -17,10 +17,10 @@ pub fn order() -> Vec<Part> {
     .iter()
     .map(|(script, number)| ends(script, &format!("refused {number} at 0")))
     .collect();
-    let short = match play(&mut Oracle::fresh(), &bytes("08"), &mut [0; 4]) {
+    let short = match play(&mut Oracle::fresh(), &bytes("0A"), &mut [0; 4]) {
         Ok(run) => run.last_line(),
         Err(fault) => fault.to_string(),
     };
-    parts.push(Part::new("08, log of 4 bytes", "refused 9 at 0", short));
+    parts.push(Part::new("0A, log of 4 bytes", "refused 9 at 0", short));
     parts
 }

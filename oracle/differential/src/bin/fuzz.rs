@@ -54,6 +54,10 @@ fn note(same: &Same) {
         place(41),
         place(5),
     ]);
+    // The clock choice, and whether one tick is left, or more than BRR gives.
+    let left = same.state.remaining;
+    let long = left > u16::from(same.state.brr) + 1;
+    count(&[4, place(1) & 3, u8::from(left == 1), u8::from(long)]);
     count(&[3, same.played.number as u8, before[0], before[2]]);
 }
 

@@ -1,5 +1,5 @@
 //! Compares the oracle and the proved port. With no option: the gate, which
-//! is document 01's cases, the arrays, the alterations, and all families with
+//! is the documents' cases, the arrays, the alterations, and all families with
 //! a fixed seed and asserted coverage. The last line is the summary.
 use differential::{
     OraclePort, Port,
@@ -22,7 +22,7 @@ runner [OPTIONS]       with no option: the gate
                        states that fail the field test
   --alter K            put alteration K on the reference; --alter 0 names them
   --self-test          only: every alteration must be reported
-  --document           only: document 01's cases on both sides, and arrays
+  --document           only: the documents' cases on both sides, and arrays
                        that are no state
   --coverage           print the counts
   --side capi|oracle   what stands beside the reference; oracle tries the
@@ -190,7 +190,7 @@ fn documents(sides: &mut Sides) -> Said {
         }
     }
     (
-        format!("{cases} cases of document 01 on both sides, {differing} differ"),
+        format!("{cases} cases of the documents on both sides, {differing} differ"),
         differing == 0,
     )
 }

@@ -20,7 +20,7 @@ const USAGE: &str = "\
 scripts [OPTIONS]      with no option: the gate
   --long               every part whole, and more random scripts
   --part NAME          only this part: two, three, running, running-three,
-                       logs, lengths, random
+                       logs, lengths, resets, cycles, random
   --seed S             the first script's number in the part; each has the next
   --scripts N          so many scripts of the part, or so many random ones
   --seconds N          random scripts for so long

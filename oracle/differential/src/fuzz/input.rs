@@ -37,6 +37,8 @@ const PLACES: u8 = 64;
 /// the longest waits and some words.
 pub const SHORT: u32 = 1_500;
 pub const LONGEST: u32 = 70_000;
+/// So many cycles count as a half here.
+pub const CYCLES: u32 = 2;
 
 #[derive(Clone, Debug, Default, PartialEq, Eq)]
 pub struct Input {
@@ -165,15 +167,18 @@ pub fn roomy(script: &[u8]) -> usize {
     (script.len() * RECORD).min(LOG)
 }
 
-/// The script up to the wait by which its halves would pass the most: the
-/// reference makes each half, and a slow input is dear.
+/// The script up to the wait or the cycles by which its halves would pass the
+/// most: the reference makes each half and is asked at each cycle, and a slow
+/// input is dear.
 pub fn bounded(script: &[u8], long: bool) -> &[u8] {
     let most = if long { LONGEST } else { SHORT };
     let (mut at, mut halves) = (0, 0);
     while let Ok((c, next)) = decode(script, at) {
-        if c.kind == 3 {
-            halves += c.a;
-        }
+        halves += match c.kind {
+            3 => c.a,
+            8 | 9 => c.a / CYCLES,
+            _ => 0,
+        };
         if halves > most {
             return &script[..at];
         }

@@ -29,6 +29,15 @@ fn other(mut c: Command, r: &mut Random) -> Command {
         5 if r.bit() => c.a ^= 1,
         5 => c.b ^= 1,
         6 => c.a ^= 1 << r.below(4),
+        8 | 9 if r.one_in(4) => c.kind = 17 - c.kind,
+        8 | 9 => {
+            let more = r.pick(&[1, 1, 2, 15, 16, 63, 64, 255, 256]);
+            c.a = if r.bit() {
+                (c.a + more).min(0xffff)
+            } else {
+                c.a.saturating_sub(more)
+            };
+        }
         _ => return sample::call(r),
     }
     c
@@ -50,14 +59,21 @@ fn changed(script: &[u8], r: &mut Random) -> Vec<u8> {
             all.splice(to..to, run);
         }
         // A wait in two, often with one half alone: what happens inside it
-        // shows, and the state there can be worked on.
-        (5..7, Some(Command { kind: 3, a, .. })) if a > 1 => {
+        // shows, and the state there can be worked on. So with cycles.
+        (
+            5..7,
+            Some(Command {
+                kind: kind @ (3 | 8 | 9),
+                a,
+                ..
+            }),
+        ) if a > 1 => {
             let first = match r.below(3) {
                 0 => 1,
                 1 => a - 1,
                 _ => 1 + r.below(a - 1),
             };
-            let part = |a| Command { kind: 3, a, b: 0 };
+            let part = |a| Command { kind, a, b: 0 };
             all.splice(at..=at, [part(first), part(a - first)]);
         }
         (7, _) => {
@@ -71,6 +87,7 @@ fn changed(script: &[u8], r: &mut Random) -> Vec<u8> {
             run.truncate(1 + place(12, r));
             all.splice(at..at, run);
         }
+        (8, _) => all.insert(at, sample::cycles(r)),
         _ => all.insert(at, sample::call(r)),
     }
     let mut bytes = Script::of(&all).bytes;

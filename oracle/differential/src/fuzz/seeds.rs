@@ -1,13 +1,16 @@
 //! What the fuzzer begins with: scripts of hexadecimal text, the short ones of
-//! the replay list, and random cases with every kind of start.
-use super::input::Input;
+//! the replay list, random cases with every kind of start, and given states with
+//! the calls that are aimed at them.
+use super::input::{Input, roomy};
 use crate::{
-    compare::Start,
+    compare::{self, Start},
     layout::encode,
     scripts::{
-        list, make,
+        list,
+        make::{self, Script},
         player::{Case, first_words},
     },
+    states,
 };
 use model::bytes;
 
@@ -15,6 +18,7 @@ use model::bytes;
 pub const LONGEST: usize = 512;
 const SEED: u64 = 0x5c13_0002;
 const RANDOM: u64 = 1000;
+const AIMED: u64 = 1000;
 
 /// A script written as in `examples/`.
 pub fn text(text: &str) -> Vec<u8> {
@@ -43,6 +47,24 @@ pub fn of(case: &Case) -> Input {
     }
 }
 
+/// A state and the calls on it, as an input; one in four fails the field test.
+fn aimed(seed: u64) -> Input {
+    let compare::Case { start, calls } = match seed % 4 {
+        0 => states::failing(seed).1,
+        _ => states::given(seed),
+    };
+    let script = Script::of(&calls).bytes;
+    let case = Case {
+        start,
+        log: roomy(&script),
+        script,
+    };
+    Input {
+        calls: true,
+        ..of(&case)
+    }
+}
+
 /// All but the texts.
 pub fn all() -> Vec<Vec<u8>> {
     let items = list::items().into_iter().map(|item| Input {
@@ -55,6 +77,7 @@ pub fn all() -> Vec<Vec<u8>> {
         turned: seed % 2 == 0,
         ..of(&make::case(seed, None).1)
     });
-    let inputs = items.chain(random).map(|input| input.write());
+    let aimed = (SEED..SEED + AIMED).map(aimed);
+    let inputs = items.chain(random).chain(aimed).map(|input| input.write());
     inputs.filter(|seed| seed.len() <= LONGEST).collect()
 }

@@ -1,5 +1,5 @@
-//! A player written from document 01 over a port's direct calls, and wrong
-//! ones made from it. It shares no code with the oracle's player, so that it
+//! A player written from documents 01 and 02 over a port's direct calls, and
+//! wrong ones made from it. It shares no code with the oracle's player, so that it
 //! can stand in for the proved one, and the wrong ones prove that the runner
 //! can fail.
 use super::player::{Played, Player};
@@ -54,7 +54,8 @@ wrong! {
     FifthByte = "a fifth byte above 15 is taken",
     SixBytes = "a number of six bytes is taken",
     KindZero = "kind 0 taken as 7",
-    KindEight = "kind 8 taken as 7",
+    KindTen = "kind 10 taken as 7",
+    KindNine = "kind 9 gives 7",
     KindLow = "kind by its low seven bits",
     RangeLate = "2 only when all operands are read",
     RangeAddress = "an address above 65,535 gives 1",
@@ -62,8 +63,21 @@ wrong! {
     IrcrFirst = "3 before 2 of the value",
     ValueLow = "a value above 255 by its low byte",
     WaitLow = "a wait by its low 14 bits",
+    CyclesLow = "cycles by their low 14 bits",
+    CyclesSwapped = "kinds 8 and 9 swapped",
+    CyclesOne = "cycles: one at most",
+    CyclesWait = "cycles taken as a wait",
+    CyclesLogged = "cycles are only logged",
+    WatchIsEight = "record: kind 8 for kind 9",
+    CyclesAnswer = "record: the cycles' low byte as answer",
     LimitPassed = "4 only when the halves before the limit have passed",
     LimitPins = "4 not given for the clock pin",
+    LimitCycles = "4 of cycles only when the halves before the limit have passed",
+    TotalAsLimit = "10 given as 4",
+    TotalAsNine = "10 given as 9",
+    TotalBeforeRange = "10 before 2",
+    TotalPassed = "10 only when the cycles before the limit have passed",
+    OffsetTotal = "offset: behind the command for 10",
     EightEmpty = "8 not tested for an empty script",
     EightLate = "8 after 9",
     EightTouches = "8 changes the state",
@@ -80,6 +94,9 @@ wrong! {
     LengthModule = "length: half counts at the module's resets, not at reset mode's",
     LengthFall = "length: a reset takes off what was counted",
     LengthPins = "length: without edges of the clock pin",
+    LengthCycles = "length: without halves of cycles",
+    LengthWatch = "length: without halves of watch cycles",
+    LengthOfCycles = "length: cycles in place of their halves",
     LengthStanding = "length: a wait's n while the clock stands",
     LengthRefused = "length: 0 at a refusal",
     LengthStart = "length: from the first port's half count on",
@@ -140,12 +157,13 @@ impl<P: Port> CallsPlayer<P> {
         let (mut kind, mut bytes) = self.number(bytes)?;
         kind = match self.wrong {
             Some(Wrong::KindZero) if kind == 0 => 7,
-            Some(Wrong::KindEight) if kind == 8 => 7,
+            Some(Wrong::KindTen) if kind == 10 => 7,
+            Some(Wrong::KindNine) if kind == 9 => 0,
             Some(Wrong::KindLow) => kind & 0x7f,
             _ => kind,
         };
         let (first, second) = match kind {
-            1 | 3 => (Some(0xffff), None),
+            1 | 3 | 8 | 9 => (Some(0xffff), None),
             2 => (Some(0xffff), Some(0xff)),
             4 => (Some(1), None),
             5 => (Some(1), Some(1)),
@@ -170,8 +188,10 @@ impl<P: Port> CallsPlayer<P> {
         if above {
             return Err(2);
         }
-        if self.is(Wrong::WaitLow) && kind == 3 {
-            c.a &= 0x3fff;
+        match self.wrong {
+            Some(Wrong::WaitLow) if kind == 3 => c.a &= 0x3fff,
+            Some(Wrong::CyclesLow) if kind > 7 => c.a &= 0x3fff,
+            _ => {}
         }
         Ok((c, bytes.len()))
     }
@@ -192,7 +212,32 @@ impl<P: Port> CallsPlayer<P> {
     fn above(&self, kind: u32, most: u32) -> u8 {
         match kind {
             1 | 2 if most == 0xffff && self.is(Wrong::RangeAddress) => 1,
+            8 | 9 if self.is(Wrong::TotalBeforeRange) && self.left(kind) < 0x1_0000 => 10,
             _ => 2,
+        }
+    }
+
+    /// Cycles up to the greatest total of a kind's clock.
+    fn left(&self, kind: u32) -> u64 {
+        let total = self.port.state().map_or(0, |s| match kind {
+            8 => s.system,
+            _ => s.watch,
+        });
+        281_474_976_710_656 - total
+    }
+
+    /// The command as it is called, with the mistakes of cycles.
+    fn turned(&self, c: Command) -> Command {
+        match self.wrong {
+            _ if c.kind < 8 => c,
+            Some(Wrong::CyclesSwapped) => Command {
+                kind: 17 - c.kind,
+                ..c
+            },
+            Some(Wrong::CyclesOne) => Command { a: c.a.min(1), ..c },
+            Some(Wrong::CyclesWait) => Command { kind: 3, ..c },
+            Some(Wrong::CyclesLogged) => Command { a: 0, ..c },
+            _ => c,
         }
     }
 
@@ -207,8 +252,20 @@ impl<P: Port> CallsPlayer<P> {
         if let Some(number) = refused {
             return Ok(Answer::Refused(number));
         }
-        let answer = self.port.call(c)?;
+        let answer = self.port.call(self.turned(c))?;
         match self.wrong {
+            Some(Wrong::LimitCycles) if answer == Answer::Refused(4) && c.kind > 7 => {
+                let one = Command { a: 1, ..c };
+                while self.port.call(one)? == Answer::Done(0) {}
+                Ok(answer)
+            }
+            Some(Wrong::TotalPassed) if answer == Answer::Refused(10) => {
+                let left = self.left(c.kind) as u32;
+                self.port.call(Command { a: left, ..c })?;
+                Ok(answer)
+            }
+            Some(Wrong::TotalAsLimit) if answer == Answer::Refused(10) => Ok(Answer::Refused(4)),
+            Some(Wrong::TotalAsNine) if answer == Answer::Refused(10) => Ok(Answer::Refused(9)),
             Some(Wrong::LimitPins) if (c.kind, answer) == (5, Answer::Refused(4)) => {
                 Ok(Answer::Done(0))
             }
@@ -269,7 +326,8 @@ impl<P: Port> CallsPlayer<P> {
             let value = match answer {
                 Answer::Done(value) => value,
                 Answer::Refused(number) => {
-                    let ends = self.is(Wrong::OffsetEnd);
+                    let ends =
+                        self.is(Wrong::OffsetEnd) || self.is(Wrong::OffsetTotal) && number == 10;
                     let offset = if ends { script.len() - behind } else { at };
                     return Ok(refused(number, offset, written, length));
                 }
@@ -316,6 +374,9 @@ impl<P: Port> CallsPlayer<P> {
             Some(Wrong::LengthFall) => moved,
             Some(Wrong::LengthPins) if c.kind == 5 => 0,
             Some(Wrong::LengthStanding) if c.kind == 3 => c.a.into(),
+            Some(Wrong::LengthCycles) if c.kind > 7 => 0,
+            Some(Wrong::LengthWatch) if c.kind == 9 => 0,
+            Some(Wrong::LengthOfCycles) if c.kind > 7 => c.a.into(),
             _ if c.kind == 6 => 0,
             _ => moved,
         };
@@ -342,6 +403,7 @@ impl<P: Port> CallsPlayer<P> {
         match self.wrong {
             Some(Wrong::AnswerOfWrite) if c.kind == 2 => answer = c.b as u8,
             Some(Wrong::AnswerMissing) => answer = 0,
+            Some(Wrong::CyclesAnswer) if c.kind > 7 => answer = c.a as u8,
             Some(Wrong::SsrBefore) => ssr = before[0],
             Some(Wrong::LevelBefore) => level = before[1],
             Some(Wrong::LevelZero) => level %= 2,
@@ -353,7 +415,11 @@ impl<P: Port> CallsPlayer<P> {
             Some(Wrong::Wrapped) => written % 32_768,
             _ => written,
         };
-        let bytes = [c.kind as u8, answer, ssr, level, interrupt];
+        let kind = match self.wrong {
+            Some(Wrong::WatchIsEight) if c.kind == 9 => 8,
+            _ => c.kind as u8,
+        };
+        let bytes = [kind, answer, ssr, level, interrupt];
         for (place, byte) in log[from..].iter_mut().zip(bytes) {
             *place = byte;
         }

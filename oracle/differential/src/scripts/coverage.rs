@@ -5,10 +5,10 @@ use super::{
     make::{DAMAGES, MADE, Origin, STARTS, profile_name},
 };
 use crate::{compare::Start, states::BREAKS};
-use model::{LIMIT, LOG, RECORD, SCRIPT, Tx, counting};
+use model::{CYCLES, LIMIT, LOG, RECORD, SCRIPT, State, Tx, counting, cycles, total};
 
-/// The numbers of the table's commands, in order; document 01's operands.
-const NUMBERS: [&str; 9] = [
+/// The numbers of the table's commands, in order.
+const NUMBERS: [&str; 11] = [
     "kind",
     "read address",
     "write address",
@@ -18,6 +18,8 @@ const NUMBERS: [&str; 9] = [
     "clock of kind 5",
     "line of kind 5",
     "power bits",
+    "system cycles",
+    "watch cycles",
 ];
 
 /// Lengths of scripts that are counted apart, each up to the next.
@@ -44,6 +46,12 @@ met! {
     LimitWait = "4 by a wait of one half",
     LimitLong = "4 by a wait whose first half would pass",
     LimitPins = "4 by the clock pin",
+    LimitSystem = "4 by system cycles",
+    LimitWatch = "4 by watch cycles",
+    TotalSystem = "10 by system cycles",
+    TotalWatch = "10 by watch cycles",
+    TotalByOne = "10 by one cycle",
+    TotalReached = "a total ends at its limit",
     LimitReached = "the half count ends at the limit",
     FullBroken = "9 before a command that cannot be read",
     FullShort = "9 before a command that is cut",
@@ -59,6 +67,14 @@ met! {
     Receiver = "ends in a start-stop word received",
     Held = "ends with a byte held",
     Halves = "ends past half 65,535",
+    Counted = "accepted, halves counted by cycles",
+    CountedBoth = "accepted, by cycles and by kind 3",
+    SentInCycles = "words sent, no kind 3",
+    ReceivedInCycles = "words received, no kind 3",
+    ClockedInCycles = "ends in a clocked word, no kind 3",
+    Begun = "ends with a count begun",
+    BothTotals = "ends with cycles of both clocks",
+    CyclesPastReset = "accepted, cycles before a reset and after it",
     PastReset = "accepted, counted before and after a reset",
     LongReset = "accepted, past half 4,095 before a reset",
     LostReset = "refused, counted before a reset",
@@ -86,12 +102,12 @@ pub struct Coverage {
     pub records: u64,
     /// Accepted commands by kind; refusals by number: at the first command,
     /// and later.
-    kinds: [[u64; 8]; 2],
-    refusals: [[u64; 10]; 2],
+    kinds: [[u64; 10]; 2],
+    refusals: [[u64; 11]; 2],
     /// Refusals 2, 5 and 6 by the number where they arose.
-    ranges: [u64; 9],
-    shorts: [u64; 9],
-    sixes: [u64; 9],
+    ranges: [u64; NUMBERS.len()],
+    shorts: [u64; NUMBERS.len()],
+    sixes: [u64; NUMBERS.len()],
     addresses: [u64; 2],
     /// 9 with so many bytes left, accepted with so many.
     full: [u64; 5],
@@ -113,11 +129,11 @@ impl Default for Coverage {
             scripts: 0,
             bytes: 0,
             records: 0,
-            kinds: [[0; 8]; 2],
-            refusals: [[0; 10]; 2],
-            ranges: [0; 9],
-            shorts: [0; 9],
-            sixes: [0; 9],
+            kinds: [[0; 10]; 2],
+            refusals: [[0; 11]; 2],
+            ranges: [0; NUMBERS.len()],
+            shorts: [0; NUMBERS.len()],
+            sixes: [0; NUMBERS.len()],
             addresses: [0; 2],
             full: [0; 5],
             left: [0; 5],
@@ -159,6 +175,8 @@ fn stopped(script: &[u8], number: u64) -> (usize, usize) {
         Some(4) => &[(5, 1)],
         Some(5) => &[(6, 1), (7, 1)],
         Some(6) => &[(8, 15)],
+        Some(8) => &[(9, 0xffff)],
+        Some(9) => &[(10, 0xffff)],
         _ => &[],
     };
     let mut place = 0;
@@ -264,7 +282,7 @@ impl Coverage {
         );
         let written = &same.log[..same.played.written as usize];
         let mut kinds = written.chunks_exact(RECORD).map(|record| record[0]);
-        let pins = length > 0 && kinds.all(|kind| kind != 3);
+        let pins = length > 0 && kinds.all(|kind| !matches!(kind, 3 | 8 | 9));
         self.meet(Met::PinLength, pins);
         self.meet(Met::PinReset, pins && lost > 0);
     }
@@ -298,6 +316,18 @@ impl Coverage {
                 self.meet(Met::LimitWait, wait && command[..size] == [3, 1]);
                 self.meet(Met::LimitLong, wait && far);
                 self.meet(Met::LimitPins, place == 7);
+                self.meet(Met::LimitSystem, place == 9);
+                self.meet(Met::LimitWatch, place == 10);
+            }
+            10 => {
+                self.meet(Met::TotalSystem, place == 9);
+                self.meet(Met::TotalWatch, place == 10);
+                let read = model::decode(same.script, offset);
+                let past = read.ok().and_then(|(c, _)| {
+                    let total = total(same.state, cycles(c.kind)?);
+                    Some(total + u64::from(c.a) - CYCLES)
+                });
+                self.meet(Met::TotalByOne, past == Some(1));
             }
             5 => self.shorts[place] += 1,
             6 => {
@@ -337,10 +367,44 @@ impl Coverage {
         self.meet(Met::Receiver, received == Some(false));
         self.meet(Met::Held, s.holding.is_some());
         self.meet(Met::Halves, s.half > 0xffff);
+        self.in_cycles(same);
         self.meet(
             Met::LimitReached,
             s.half == LIMIT && same.played.written > 0,
         );
+    }
+
+    /// What cycles did, where a fresh port began.
+    fn in_cycles(&mut self, same: &Same) {
+        let (s, written) = (same.state, same.played.written as usize);
+        let greatest = s.system == CYCLES || s.watch == CYCLES;
+        self.meet(Met::TotalReached, greatest && written > 0);
+        if *same.start != Start::Fresh || s.system == 0 && s.watch == 0 {
+            return;
+        }
+        let records = || same.log[..written].chunks_exact(RECORD);
+        let alone = records().all(|record| record[0] != 3);
+        let clocked = |s: &State| {
+            let sent =
+                matches!(s.tx, Some(Tx::Data { character, .. }) if character.format.synchronous);
+            sent || s.rx.is_some_and(|rx| rx.format.synchronous)
+        };
+        self.meet(Met::SentInCycles, alone && s.transmitted > 0);
+        self.meet(Met::ReceivedInCycles, alone && s.received > 0);
+        self.meet(Met::ClockedInCycles, alone && clocked(s));
+        let begun = s.remaining != 256 && s.remaining != u16::from(s.brr) + 1;
+        self.meet(Met::Begun, begun);
+        self.meet(Met::BothTotals, s.system > 0 && s.watch > 0);
+        if same.played.number != 0 {
+            return;
+        }
+        let counted = same.played.length > 0;
+        let pins = records().any(|record| record[0] == 5);
+        self.meet(Met::Counted, alone && !pins && counted);
+        self.meet(Met::CountedBoth, !alone && !pins && counted);
+        let lost = same.played.length - u64::from(s.half);
+        let again = alone && !pins && lost > 0 && s.half > 0;
+        self.meet(Met::CyclesPastReset, again);
     }
 
     pub fn add(&mut self, other: &Self) {

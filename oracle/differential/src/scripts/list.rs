@@ -7,7 +7,7 @@
 //! first, and the script. Printout: for each case its records' lines, the last
 //! line, and `=` with the sum of log and state; at the end the number of cases.
 use super::{
-    make::{self, BYTES, DAMAGES, MADE, Script},
+    make::{self, BYTES, DAMAGES, MADE, Script, shortest},
     player::{Played, reference},
     writes::{self, Write},
 };
@@ -84,6 +84,9 @@ fn broken() -> Vec<Vec<u8>> {
         "05 02 02",
         "06 10",
         "06 FF FF FF FF 0F",
+        "08 80 80 04",
+        "09 80 80 04",
+        "08 FF FF FF FF 0F",
         // 3, and its neighbours.
         "02 A7 FF 03 80 01",
         "02 A7 FF 03 FF 01",
@@ -101,12 +104,16 @@ fn broken() -> Vec<Vec<u8>> {
         "05",
         "05 01",
         "06",
+        "08",
+        "09",
+        "08 FF FF",
         "80",
         "83 80 80 80",
         // 6, at each number, and before 5, 7 and 2.
         "80 00",
         "87 00",
         "81 80 00",
+        "88 80 00",
         "88 80 80 80 10",
         "FF FF FF FF 7F",
         "FF FF FF FF 80",
@@ -122,9 +129,12 @@ fn broken() -> Vec<Vec<u8>> {
         "05 81 00 00",
         "05 00 81 00",
         "06 8F 00",
+        "08 80 00",
+        "09 FF FF 83 00",
         // 7, with and without more behind.
         "00",
-        "08",
+        "0A",
+        "0A 01",
         "0F 00",
         "7F",
         "80 01",
@@ -201,11 +211,71 @@ fn resets() -> Vec<Vec<u8>> {
         "06 03 05 00 01 05 01 01 02 9A FF 03 02 05 00 01 05 01 01 02 9A FF 03 00 03 05 06 00 06 03 03 02",
         "06 03 02 9A FF 03 02 05 00 01 05 01 01 06 00 06 03 02 9A FF 03 02 05 00 01",
         // Refused: the length is not printed.
-        "06 03 03 05 06 00 06 03 03 07 08",
+        "06 03 03 05 06 00 06 03 03 07 0A",
         "06 03 03 05 06 0B 03 80 80 04",
     ]
     .map(bytes)
     .to_vec()
+}
+
+/// Cycles: each choice and each divider, BRR with TE and RE on and off, stops,
+/// resets, the external clock and kind 3 between, and both clocks.
+fn in_cycles() -> Vec<Vec<u8>> {
+    let mut all: Vec<Vec<u8>> = [
+        // A word sent at an edge and off it; late and early BRR; a divider that
+        // has run before; another choice.
+        "06 03 02 99 FF 03 00 08 20 02 9A FF 03 20 03 C0 02",
+        "06 03 02 99 FF 03 00 08 20 09 01 02 9A FF 03 20 03 E0 02",
+        "06 03 08 64 02 9A FF 03 10 02 99 FF 03 00 08 9D 01",
+        "08 0F 06 03 02 98 FF 03 02 02 99 FF 03 00 08 01",
+        "06 01 02 98 FF 03 02 06 03 02 98 FF 03 00 08 80 02",
+        // Nothing counts: off, stopped, in reset mode, on the other clock.
+        "08 FF FF 03 09 FF FF 03",
+        "06 01 08 FF FF 03 06 03 08 FF 01 08 01",
+        "06 0B 08 FF FF 03 06 03 08 01",
+        "06 03 09 FF FF 03 08 FF 01 08 01",
+        "06 03 08 80 02 08 00 02 9A FF 03 20",
+        // The subclock alone.
+        "06 05 02 98 FF 03 01 09 80 02 09 80 02 08 80 02",
+        "06 05 09 80 02 08 80 02",
+        // A half by kind 3 leaves a full count, one that counts nothing does not.
+        "06 03 08 64 03 01 08 FF 01 08 01",
+        "06 03 08 64 06 01 03 01 06 03 08 9B 01 08 01",
+        // Edges of the clock pin pass no ticks, and cycles no edges.
+        "06 03 08 64 02 9A FF 03 02 05 00 01 08 FF FF 03 02 9A FF 03 00 08 9B 01 08 01",
+        // A reset leaves 256, and the totals.
+        "06 03 08 64 06 00 06 03 08 FF 01 08 01",
+        "06 03 02 99 FF 03 05 06 0B 06 03 08 FF 01 08 01 08 FF 01 08 01",
+        "08 3F 06 03 02 98 FF 03 03 02 99 FF 03 00 06 00 06 03 02 98 FF 03 03 02 99 FF 03 00 08 01 08 3F 08 01",
+        // BRR with the value that it has, with TE, with RE, stopped, external.
+        "06 03 02 99 FF 03 07 08 07 02 99 FF 03 07 08 07 08 01",
+        "06 03 02 99 FF 03 07 08 03 02 9A FF 03 20 02 99 FF 03 01 08 04 08 01 08 02",
+        "06 03 02 99 FF 03 07 08 03 02 9A FF 03 30 02 99 FF 03 01 08 04 08 01 08 02",
+        "06 01 02 99 FF 03 03 06 03 08 03 08 01",
+        "06 03 02 9A FF 03 02 02 99 FF 03 03 02 9A FF 03 00 08 03 08 01",
+        "02 99 FF 03 03 06 03 08 FF 01 08 01",
+        // Another choice keeps what is left.
+        "06 03 02 99 FF 03 07 08 03 02 98 FF 03 01 09 04 09 01 02 98 FF 03 02 08 80 01",
+    ]
+    .map(bytes)
+    .to_vec();
+    // A word sent and one received, on each choice.
+    for (choice, cycles) in [(0, "08"), (1, "09"), (2, "08"), (3, "08")] {
+        let half = [1, 1, 16, 64][choice];
+        let mut script = bytes("06 03 02 91 FF 03 10 02 98 FF 03");
+        script.push(choice as u8);
+        script.extend(bytes("02 99 FF 03 00 02 9A FF 03 30 02 9B FF 03 35 04 00"));
+        let mut pass = |halves: u32| {
+            script.extend(bytes(cycles));
+            script.extend(shortest(halves * half));
+        };
+        for halves in [1, 63, 256, 32, 288] {
+            pass(halves);
+        }
+        script.extend(bytes("01 9C FF 03 01 9D FF 03"));
+        all.push(script);
+    }
+    all
 }
 
 /// Commands of one and two bytes on a port that counts, to fill a log.
@@ -241,11 +311,11 @@ pub fn items() -> Vec<Item> {
     for log in 0..=16 {
         add(log, &[7]);
         add(log, &[7, 7]);
-        add(log, &[7, 7, 8]);
+        add(log, &[7, 7, 10]);
     }
     let two = [
-        0x00, 0x01, 0x02, 0x03, 0x04, 0x05, 0x06, 0x07, 0x08, 0x0f, 0x10, 0x7f, 0x80, 0x81, 0x87,
-        0x88, 0xff,
+        0x00, 0x01, 0x02, 0x03, 0x04, 0x05, 0x06, 0x07, 0x08, 0x09, 0x0a, 0x0f, 0x10, 0x7f, 0x80,
+        0x81, 0x87, 0x88, 0xff,
     ];
     for script in over(&two, 2) {
         add(10, &script);
@@ -292,6 +362,9 @@ pub fn items() -> Vec<Item> {
         add(log, &whole[..whole.len() - 1]);
     }
     for script in resets() {
+        add(RECORD * (commands(&script).0.len() + 1), &script);
+    }
+    for script in in_cycles() {
         add(RECORD * (commands(&script).0.len() + 1), &script);
     }
     for (_, script) in checks::findings::scripts() {

@@ -9,7 +9,7 @@ use crate::{
 use model::{
     Command, LOG, RECORD, SCRIPT, ranges,
     registers::{ADDRESSES, BESIDE, IRCR, SCR, SEMR, SMR, SPCR},
-    sample::Random,
+    sample::{self, Random},
 };
 
 /// A number in shortest form.
@@ -99,6 +99,8 @@ fn commands(profile: usize, r: &mut Random) -> Vec<Command> {
 fn storm(r: &mut Random) -> Vec<Command> {
     let call = |kind, a, b| Command { kind, a, b };
     let mut all = vec![call(6, 3, 0)];
+    // In halves, in cycles, or in both.
+    let time = r.below(3);
     for _ in 0..20 + r.below(60) {
         let value = u32::from(r.byte());
         all.push(match r.below(12) {
@@ -109,6 +111,7 @@ fn storm(r: &mut Random) -> Vec<Command> {
             6 => call(2, r.pick(&ADDRESSES), value & 0x7f),
             7 | 8 => call(1, r.pick(&ADDRESSES), 0),
             9 => call(r.pick(&[4, 5]), r.below(2), r.below(2)),
+            _ if time == 1 || time == 2 && r.bit() => sample::cycles(r),
             _ => call(3, r.pick(&[0, 1, 2, 15, 16, 17, 32, 33]), 0),
         });
     }
@@ -150,7 +153,7 @@ pub fn any_bytes(length: usize, r: &mut Random) -> Vec<u8> {
             0 => r.byte(),
             1 => r.pick(&[0x80, 0x81, 0xff, 0x9a, 0x9c, 0x9d, 0x98]),
             2 => r.pick(&[0xff, 0x03, 0x03, 0x00]),
-            _ => r.below(9) as u8,
+            _ => r.below(11) as u8,
         })
         .collect()
 }
@@ -170,7 +173,7 @@ pub const DAMAGES: [&str; 16] = [
     "number not shortest",
     "number too large",
     "number of six bytes",
-    "kind 0 or above 7",
+    "kind 0 or above 9",
     "operand above its range",
     "address outside the nine",
     "IRCR bit 7",
@@ -272,7 +275,19 @@ pub fn damaged(script: &Script, damage: usize, r: &mut Random) -> Vec<u8> {
             );
         }
         10 => {
-            let kind = r.pick(&[0, 8, 9, 15, 127, 128, 129, 135, 256 + 3, 1 << 14, u32::MAX]);
+            let kind = r.pick(&[
+                0,
+                10,
+                11,
+                15,
+                127,
+                128,
+                129,
+                137,
+                256 + 8,
+                1 << 14,
+                u32::MAX,
+            ]);
             bytes = script.with(at, &spoilt(c, 0, |_| shortest(kind)));
         }
         11 => {

@@ -17,7 +17,7 @@ pub struct Case {
 /// What is answered beside the state and the log.
 #[derive(Clone, Copy, Debug, Default, PartialEq, Eq)]
 pub struct Played {
-    /// 0 where the script was accepted, else document 01's number.
+    /// 0 where the script was accepted, else the refusal's number.
     pub number: u64,
     /// Of the refused command's first byte; 0 where there is none.
     pub offset: u64,

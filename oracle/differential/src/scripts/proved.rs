@@ -1,4 +1,4 @@
-//! The proved player, through its C function. It answers 0 or document 01's
+//! The proved player, through its C function. It answers 0 or a refusal's
 //! number; the offset, the log bytes written and the run's length come through
 //! a third array.
 use super::{
@@ -44,7 +44,7 @@ impl Player for ProvedPlayer {
                 out.as_mut_ptr(),
             )
         };
-        if number > 9 {
+        if number > 10 {
             return Err(format!("sci3_play answers {number}"));
         }
         let [offset, written, length] = out;
@@ -64,7 +64,7 @@ pub fn arrays(seed: u64) -> (u64, Vec<String>) {
     let mut wrong = Vec::new();
     let mut tried = 0;
     for (what, array) in no_states(&first_words(&Start::Fresh)) {
-        for script in [&[][..], &[7], &[8], &[6, 3, 3, 1]] {
+        for script in [&[][..], &[7], &[8, 1], &[10], &[6, 3, 3, 1]] {
             tried += 1;
             if let Some(how) = not_refused(&mut ProvedPlayer, &array, script) {
                 wrong.push(format!("{what}: {how}"));

@@ -46,6 +46,7 @@ parts! {
     Logs = "logs", "log lengths from 0 to 40,960",
     Lengths = "lengths", "script lengths from 0 to 16,384",
     Resets = "resets", "resets, waits and edges of the clock pin in every order, fresh port",
+    Cycles = "cycles", "cycles, choices, BRR writes, stops and resets in every order, fresh port",
     Random = "random", "random scripts",
 }
 
@@ -82,26 +83,54 @@ const TURNS: [&str; 9] = [
 ];
 const MOST_TURNS: u32 = 6;
 
-/// The script of a number in that part: shorter ones first.
-fn turns(mut number: u64) -> Vec<u8> {
-    let many = TURNS.len() as u64;
-    let mut script = bytes("06 03");
+/// Commands of the part `cycles`, on a port that is switched on and has two
+/// ticks to each half: cycles of both clocks, each choice, a BRR of one tick, TE
+/// on and off, the external clock, a stop, and a module reset. None is kind 3.
+const COUNTS: [&str; 14] = [
+    "08 01",
+    "08 0F",
+    "08 3F",
+    "09 01",
+    "02 98 FF 03 00",
+    "02 98 FF 03 01",
+    "02 98 FF 03 02",
+    "02 98 FF 03 03",
+    "02 99 FF 03 00",
+    "02 9A FF 03 20",
+    "02 9A FF 03 02",
+    "06 01",
+    "06 03",
+    "06 00",
+];
+const MOST_COUNTS: u32 = 5;
+
+/// The script of a number in those parts: shorter ones first.
+fn turns(opening: &str, turns: &[&str], mut number: u64) -> Vec<u8> {
+    let many = turns.len() as u64;
+    let mut script = bytes(opening);
     while number > 0 {
         number -= 1;
-        script.extend(bytes(TURNS[(number % many) as usize]));
+        script.extend(bytes(turns[(number % many) as usize]));
         number /= many;
     }
     script
 }
+/// How many of at most so many commands.
+fn orders(turns: &[&str], most: u32) -> u64 {
+    (0..=most).map(|n| (turns.len() as u64).pow(n)).sum()
+}
 
 /// Scripts whose ports are at work: sending and receiving in start-stop form,
-/// the clock pin counted, clocked output, reset mode, the line turned.
-const WORK: [&str; 5] = [
+/// the clock pin counted, clocked output, reset mode, the line turned; then one
+/// tick before a half, by a watch cycle and by one that system/16 counts.
+const WORK: [&str; 7] = [
     "06 03 02 91 FF 03 10 02 9A FF 03 F0 03 E0 02 02 9B FF 03 55 04 00 03 35",
     "06 03 02 98 FF 03 80 01 02 9A FF 03 32 02 9B FF 03 0F 05 00 01 05 01 01",
     "06 03 02 98 FF 03 80 01 02 91 FF 03 10 02 9A FF 03 B0 01 02 9B FF 03 AA 03 2B",
     "06 05 02 98 FF 03 21 02 9A FF 03 30 03 40 06 0D 04 00",
     "06 03 02 91 FF 03 13 02 A6 FF 03 08 02 9A FF 03 30 04 01 03 28",
+    "06 03 02 91 FF 03 10 02 98 FF 03 01 02 9A FF 03 30 09 FF 01 04 00",
+    "08 0F 06 03 02 98 FF 03 82 01 02 99 FF 03 00 02 9A FF 03 30 02 9B FF 03 55",
 ];
 
 /// The script of a number: shorter ones first, low byte first.
@@ -136,7 +165,8 @@ impl Walk {
             Part::Running => TWO * WORK.len() as u64,
             Part::Logs => (LOG as u64 + 1) * EACH,
             Part::Lengths => (SCRIPT as u64 + 1) * EACH,
-            Part::Resets => (0..=MOST_TURNS).map(|n| (TURNS.len() as u64).pow(n)).sum(),
+            Part::Resets => orders(&TURNS, MOST_TURNS),
+            Part::Cycles => orders(&COUNTS, MOST_COUNTS),
             Part::Random => u64::MAX,
         };
         Self {
@@ -234,8 +264,13 @@ impl Ground {
             // Each command has a record's room, and the next too.
             Part::Resets => fixed(
                 &Start::Fresh,
-                turns(number),
+                turns("06 03", &TURNS, number),
                 RECORD * (MOST_TURNS as usize + 2),
+            ),
+            Part::Cycles => fixed(
+                &Start::Fresh,
+                turns("06 03 02 99 FF 03 01", &COUNTS, number),
+                RECORD * (MOST_COUNTS as usize + 3),
             ),
             Part::Random => {
                 let (origin, case) = make::case(number, None);
@@ -382,6 +417,7 @@ pub fn gate(scripts: u64, seed: u64) -> Vec<Walk> {
         Walk::whole(Part::Lengths).every(61),
         Walk::whole(Part::Lengths).last(4 * EACH),
         Walk::whole(Part::Resets),
+        Walk::whole(Part::Cycles),
         Walk::whole(Part::Random).from(seed, scripts),
     ]
 }
@@ -396,6 +432,7 @@ pub fn long(scripts: u64, seed: u64) -> Vec<Walk> {
         Walk::whole(Part::Logs),
         Walk::whole(Part::Lengths),
         Walk::whole(Part::Resets),
+        Walk::whole(Part::Cycles),
         Walk::whole(Part::Random).from(seed, scripts),
     ]
 }
@@ -404,9 +441,10 @@ pub fn long(scripts: u64, seed: u64) -> Vec<Walk> {
 pub fn trial(scripts: u64, seed: u64) -> Vec<Walk> {
     let mut walks = vec![
         Walk::whole(Part::Running).every(7),
+        Walk::whole(Part::Random).from(seed, 1000),
         Walk::whole(Part::Two).every(7),
         Walk::whole(Part::Resets).every(7),
-        Walk::whole(Part::Random).from(seed, 1000),
+        Walk::whole(Part::Cycles).every(101),
     ];
     let lengths = [Part::Logs, Part::Lengths];
     let gate = gate(0, seed).into_iter();

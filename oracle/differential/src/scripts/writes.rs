@@ -5,7 +5,7 @@
 //! A write stands in the list as a case whose log's length is `MARK`, which no
 //! log has: kind in two bytes, operands in four each, the buffer's length and
 //! the offset in eight each, low byte first. Kind 0 writes the first operand as
-//! a number, 1 to 7 the command; 8 asks whether as many bytes fit as the two
+//! a number, 1 to 9 the command; 10 asks whether as many bytes fit as the two
 //! operands make, the first the low half.
 use super::{
     list::{FILL, fnv},
@@ -14,7 +14,7 @@ use super::{
 use model::{Command, sample::Random};
 
 pub const MARK: u16 = 0xffff;
-pub const FITS: u16 = 8;
+pub const FITS: u16 = 10;
 /// The longest buffer.
 pub const ROOM: u64 = 32;
 const SEED: u64 = 0x5c13_0003;
@@ -134,7 +134,7 @@ fn numbers_alone() -> Vec<Write> {
 fn commands() -> Vec<Write> {
     let first = [0, 1, 2, 15, 16, 0x7f, 0x80, 0xff9c, 65535, 65536, u32::MAX];
     let mut all = Vec::new();
-    for kind in 1..=7 {
+    for kind in 1..=9 {
         for a in first {
             for b in [0, 0xff, u32::MAX] {
                 all.push(write(kind, a, b, 20, 1));
@@ -149,7 +149,7 @@ fn random() -> Vec<Write> {
     let r = &mut Random::new(SEED);
     let mut all = Vec::new();
     for _ in 0..300 {
-        let kind = r.below(8) as u16;
+        let kind = r.below(FITS.into()) as u16;
         let [a, b] = [0, 0].map(|_| r.below(u32::MAX) >> r.below(32));
         let length = u64::from(r.below(ROOM as u32 + 1));
         let at = match r.below(8) {

@@ -119,11 +119,58 @@ mod oracle {
         }
     }
 
-    impl Sci {
-        /// The state that document 01 keeps. Refused with a reason where a
-        /// part that it leaves behind has moved, since the state would then
-        /// not be the whole port.
-        pub fn oracle_state(&self, now: Time) -> Result<snapshot::State, &'static str> {
+    impl crate::AnySci for Sci {
+        type Clocks = Clocks;
+
+        fn peek(&self, a: u16) -> u8 {
+            Sci::peek(self, a)
+        }
+        fn read(&mut self, a: u16) -> u8 {
+            Sci::read(self, a)
+        }
+        fn write(&mut self, a: u16, v: u8, now: Time, c: &Clocks) -> Result<(), Error> {
+            Sci::write(self, a, v, now, c)
+        }
+        fn set_power(
+            &mut self,
+            [module, main, sub, reset_mode]: [bool; 4],
+            now: Time,
+            c: &Clocks,
+        ) -> Result<(), Error> {
+            Sci::set_power(self, module, main, sub, reset_mode, now, c)
+        }
+        fn input_pins(
+            &mut self,
+            clock: Option<bool>,
+            input: bool,
+            now: Time,
+            c: &Clocks,
+        ) -> Result<bool, Error> {
+            Sci::input_pins(self, clock, input, now, c)
+        }
+        fn sync(&mut self, now: Time, c: &Clocks) -> Result<(), Error> {
+            Sci::sync(self, now, c)
+        }
+        fn advance(&mut self, now: Time, c: &Clocks) -> Result<(), Error> {
+            Sci::advance(self, now, c)
+        }
+        fn deadline(&self, c: &Clocks) -> Result<Option<Time>, Error> {
+            Sci::deadline(self, c)
+        }
+        fn interrupt(&self) -> bool {
+            Sci::interrupt(self)
+        }
+
+        fn oracle_pins(&self) -> (Option<Drive>, Option<bool>, bool) {
+            let pins = self.pins();
+            (pins.clock, pins.transmit, pins.receive)
+        }
+        fn oracle_state(
+            &self,
+            now: Time,
+            c: &Clocks,
+            [system, watch]: [u64; 2],
+        ) -> Result<snapshot::State, &'static str> {
             if self.baud.oracle_stale() {
                 return Err("the present half's edge time is not settled");
             }
@@ -169,11 +216,12 @@ mod oracle {
                 sync_next: narrow_due(self.sync_next)?,
                 transmitted: self.transmitted,
                 received: self.received,
+                remaining: (self.baud.oracle_remaining(now, c)).ok_or("a half is overdue")?,
+                system,
+                watch,
             })
         }
-        /// A port in a given state, valid or not, at `now`, which is later
-        /// than time zero. For tests only: no call leads here.
-        pub fn oracle_from_state(s: &snapshot::State, now: Time, c: &Clocks) -> Self {
+        fn oracle_from_state(s: &snapshot::State, now: Time, c: &Clocks) -> Self {
             let mut port = Self {
                 spcr: s.spcr,
                 smr: s.smr,
@@ -205,47 +253,44 @@ mod oracle {
             port.baud = Baud::oracle_at(
                 (s.half.into(), s.high, s.edge),
                 (port.tap(), port.running(), port.external()),
-                port.reload(),
+                s.remaining,
                 now,
                 c,
             );
             port
         }
-        pub fn oracle_half(&self) -> u64 {
+        fn oracle_half(&self) -> u64 {
             self.baud.half
         }
-        /// Whether halves pass by themselves: the reference's own view.
-        pub fn oracle_counting(&self) -> bool {
+        fn oracle_counting(&self) -> bool {
             let (_, running, external) = self.baud.oracle_selection();
             running && !external
         }
-        /// The time of the next half's edge, while halves pass.
-        pub fn oracle_next_edge(&self, c: &Clocks) -> Result<Option<Time>, Error> {
-            self.oracle_edge_after(1, c)
+        #[inline]
+        fn oracle_due(&self, now: Time, c: &Clocks) -> bool {
+            self.baud.oracle_due(now, c)
         }
-        /// The time of the edge of the half so many halves from now.
-        pub fn oracle_edge_after(&self, halves: u64, c: &Clocks) -> Result<Option<Time>, Error> {
+        fn oracle_edge_after(&self, halves: u64, c: &Clocks) -> Result<Option<Time>, Error> {
             self.baud
                 .deadline(self.baud.half + halves, c, self.reload())
         }
-        /// Empty the optical log; how many changes it held.
-        pub fn oracle_drain(&mut self) -> usize {
+        fn oracle_drain(&mut self) -> usize {
             let mut changes = 0;
             self.drain_optical(|_, _| changes += 1);
             changes
         }
-        /// Whether the clock pin shows the excursion after clocked output.
-        pub fn oracle_glitch(&self) -> bool {
+        fn oracle_glitch(&self) -> bool {
             self.mux_glitch.is_some()
         }
-        /// End that excursion, as its time passing would.
-        pub fn oracle_end_glitch(&mut self) {
+        fn oracle_end_glitch(&mut self) {
             self.mux_glitch = None;
         }
-        /// The reference's own test of a state.
-        pub fn oracle_validate(&self, now: Time) -> Result<(), Error> {
+        fn oracle_validate(&self, now: Time) -> Result<(), Error> {
             self.validate(now)
         }
+    }
+
+    impl Sci {
         /// The word of a value, straight from the frame.
         pub fn oracle_word(smr: u8, semr: u8, value: u8) -> u16 {
             Format::new(smr, semr).word(value)

@@ -13,19 +13,37 @@ impl Baud {
     pub(super) fn oracle_selection(&self) -> (Tap, bool, bool) {
         (self.tap, self.running, self.external)
     }
-    /// A counter at `half`, at its edge or not, with a full count waiting:
-    /// document 01 keeps no count inside a half.
+    /// Whether the next half is due by `now`, as `half_at` says; asked at each
+    /// cycle.
+    #[inline]
+    pub(super) fn oracle_due(&self, now: Time, clocks: &Clocks) -> bool {
+        let elapsed = || clocks.ticks(now, self.tap).saturating_sub(self.consumed);
+        self.counting() && elapsed() >= self.remaining.into()
+    }
+    /// The ticks left from `now` to the next half, which is not due yet. What
+    /// was given is given back, also where it is no number of ticks.
+    pub(super) fn oracle_remaining(&self, now: Time, clocks: &Clocks) -> Option<u16> {
+        let elapsed = match self.counting() {
+            true => clocks.ticks(now, self.tap).checked_sub(self.consumed)?,
+            false => 0,
+        };
+        match u16::try_from(elapsed).ok()? {
+            0 => Some(self.remaining),
+            elapsed => self.remaining.checked_sub(elapsed).filter(|left| *left > 0),
+        }
+    }
+    /// A counter at `half`, at its edge or not, with so many ticks to the next.
     pub(super) fn oracle_at(
         (half, high, edge): (u64, bool, bool),
         (tap, running, external): (Tap, bool, bool),
-        reload: u16,
+        remaining: u16,
         now: Time,
         clocks: &Clocks,
     ) -> Self {
         Self {
             tap,
             consumed: clocks.ticks(now, tap),
-            remaining: reload,
+            remaining,
             half,
             high,
             // Time zero is the last edge of a fresh counter.
