@@ -8,7 +8,6 @@ use mathlib.Core.Bool.{false≢true}
 use Rattle.frame.specs.declared.Format.{Format}
 use Rattle.frame.specs.Frame.{has, stop}
 use Rattle.branches.proofs.Branches.{by_cond, both_arms, cond_true, cond_false, or_left, or_right}
-use borrow.Author.Tests.{not-true}
 use Rattle.frame.proofs.Truth.{and_left, and_right}
 use Rattle.shift.specs.declared.Character.{Character}
 use Rattle.shift.specs.declared.Tx.{Tx}
@@ -27,7 +26,7 @@ use Rattle.port.specs.Receiver.{input_level, error_free, arms, arm_receive_on, a
 use Rattle.port.specs.Sender.{character, loaded_on, preloaded_on, loaded, preloaded, begin, start_at, start_loaded, try_start_on, try_start, one_sent, finish_tail, next_cell, send_step_on, advance_tx}
 use Rattle.port.specs.Clocked.{sync_needed, with_clock, refresh_sync_clock, receive_bit_on, receive_bit, tail_ends_on, tail_ends, shift_out_on, shift_out, sync_edge}
 use Rattle.port.specs.Half.{process_basic, sync, clocked_edge, advance, half_step}
-use Rattle.port.specs.Private.Skip.{arms_on, nothing_due, clock_fresh}
+use Rattle.port.specs.Private.Skip.{arms_on, clock_fresh}
 use Rattle.port.specs.Valid.{limit, valid}
 use Rattle.port.specs.Private.Ready.{Ready}
 use Rattle.port.proofs.Steps.{product≤}
@@ -61,16 +60,6 @@ pub basic_still : (p : Port) → due_now (tx_next p.tx) p.half ≡ false → due
 unfolding process_basic
 basic_still p t r a =
     ap (λ (q : Port). arm_receive (advance_rx q)) (tx_still p t) ∙ ap arm_receive (rx_still p r) ∙ arm_still p a
-
-pub basic_nothing_due : (z p : Port) (f : Bool) → f ≡ nothing_due p → f ≡ true → z ≡ p → z ≡ process_basic p
-unfolding nothing_due
-basic_nothing_due z p f ef t e =
-    let s : Bool = due_now (tx_next p.tx) p.half in
-    let r : Bool = due_now (rx_next p.rx) p.half in
-    let a : Bool = arms_on p.rx p in
-    let all : (not s && (not r && not a)) ≡ true = sym ef ∙ t in
-    let ra : (not r && not a) ≡ true = and_right (not s) (not r && not a) all in
-    e ∙ sym (basic_still p (not-true s (and_left (not s) (not r && not a) all)) (not-true r (and_left (not r) (not a) ra)) (not-true a (and_right (not r) (not a) ra)))
 
 pub edge_still : (p : Port) → due_now p.sync_next p.half ≡ false → clocked_edge p ≡ p
 unfolding clocked_edge

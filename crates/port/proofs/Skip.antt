@@ -15,7 +15,7 @@ use Rattle.port.specs.Fields.{with_half, with_high, with_edge}
 use Rattle.port.specs.Baud.{external, counted}
 use Rattle.port.specs.Clocked.{refresh_sync_clock, sync_edge}
 use Rattle.port.specs.Half.{process_basic, clocked_edge, advance, half_step, halves}
-use Rattle.port.specs.Private.Skip.{arms_on, clock_fresh, deadline, counted_by, toggled, edge_of, edge_work, ClockGives, edges}
+use Rattle.port.specs.Private.Skip.{arms_on, clock_fresh, deadline, counted_by, toggled, edge_of, edge_work, ClockGives, Planned, edges}
 use Rattle.port.specs.Valid.{limit}
 use Rattle.port.specs.Private.Ready.{Ready}
 use Rattle.port.proofs.Keep.{own, keep_process_basic, keep_sync_edge, keep_clocked_edge, keep_refresh_sync_clock, keep_counted, sync_edge_ready, clocked_edge_ready, with_clock_ready}
@@ -82,7 +82,25 @@ one_counted p = ap₂ (λ (n : ℕ) (b : Bool). at_half n b p) (omega arith) (no
 then_counted : (k : ℕ) (p : Port) → counted_by k (counted p) ≡ counted_by (suc k) p
 unfolding counted_by
 then_counted k p =
-    ap₂ (λ (n : ℕ) (b : Bool). at_half n b p) (omega arith) (differ_not p.high _ ∙ ap (differ p.high) (sym (odd_suc k)))
+    let further : suc p.half + k ≡ p.half + suc k = omega arith in
+    ap (λ (e : Bool). with_edge (with_high (with_half p (suc p.half + k)) (differ (not p.high) (not (eqb (k % 2) 0)))) e) (or_true (not (eqb k 0)))
+    ∙ ap₂ (λ (n : ℕ) (b : Bool). at_half n b p) further (differ_not p.high _ ∙ ap (differ p.high) (sym (odd_suc k)))
+    ∙ ap (λ (b : Bool). with_edge (with_high (with_half p (p.half + suc k)) (differ p.high (not (eqb (suc k % 2) 0)))) (not b || p.edge)) (sym some)
+  where
+    some : eqb (suc k) 0 ≡ false
+    some = ne_eqb (suc k) 0 (λ e. omega (arith, e))
+
+    or_true : (b : Bool) → (b || true) ≡ true
+    or_true true = refl
+    or_true false = refl
+
+counted_none : (p : Port) → counted_by 0 p ≡ p
+unfolding counted_by
+counted_none p = ap₂ (λ (n : ℕ) (b : Bool). with_edge (with_high (with_half p n) b) p.edge) (omega arith) (same p.high)
+  where
+    same : (b : Bool) → differ b false ≡ b
+    same true = refl
+    same false = refl
 
 -- ---- a half on which nothing happens
 -- no word begins, the clock of clocked form is planned, and nothing is due in the k halves to come
@@ -183,18 +201,18 @@ deadline_still p left i l e = go (arms_on p.rx p) (clock_fresh p) refl refl e
         }
 
 -- a deadline after all of them: they only count
-pub idle_halves : (z p : Port) (n k : ℕ) → Ready p.half p → p.half + n ≤ limit → external p ≡ false → 448 < n → k ≡ deadline (n + 1) p → n < k → z ≡ counted_by n p → z ≡ halves n p
-idle_halves z p zero k r l x some ek t e = absurd (omega (arith, some))
-idle_halves z p (suc i) k r l x some ek t e =
+pub idle_halves : (z p : Port) (n k : ℕ) → Ready p.half p → p.half + n ≤ limit → external p ≡ false → k ≡ deadline (n + 1) p → n < k → z ≡ counted_by n p → z ≡ halves n p
+unfolding halves
+idle_halves z p zero k r l x ek t e = e ∙ counted_none p
+idle_halves z p (suc i) k r l x ek t e =
     let b = deadline_bounds p (suc i + 1) k (omega arith) ek in
     let same : suc (suc i) ≡ k = omega (arith, b.1, t) in
     e ∙ sym (all_still i p r l x (deadline_still p (suc i + 1) i (omega arith) (same ∙ ek)))
 
-pub skip_deadline : (p : Port) (left k : ℕ) → Ready p.half p → external p ≡ false → 1 ≤ left → p.half + left ≤ limit → k ≡ deadline left p → advance (counted_by k p) ≡ halves k p
-skip_deadline p left zero r x l h e = absurd (omega (arith, (deadline_bounds p left zero l e).0))
+pub skip_deadline : (p : Port) (left k : ℕ) → Ready p.half p → external p ≡ false → k ≤ left → p.half + left ≤ limit → k ≡ deadline (left + 1) p → advance (counted_by k p) ≡ halves k p
+skip_deadline p left zero r x l h e = absurd (omega (arith, (deadline_bounds p (left + 1) zero (omega arith) e).0))
 skip_deadline p left (suc zero) r x l h e = sym (one_half p r (omega (arith, l, h)) x)
-skip_deadline p left (suc (suc i)) r x l h e =
-    sym (skip (suc i) p r (omega (arith, h, (deadline_bounds p left (suc (suc i)) l e).1)) x (deadline_still p left i l e))
+skip_deadline p left (suc (suc i)) r x l h e = sym (skip (suc i) p r (omega (arith, h, l)) x (deadline_still p (left + 1) i (omega arith) e))
 
 -- SCR is kept, so a port on the internal clock stays there
 abbrev Internal : Port → Type 0
@@ -258,51 +276,67 @@ pub goes_in : (pin : Option Bool) (n : ℕ) (p : Port) → Ready p.half p × (p.
 goes_in None n p h = h
 goes_in (Some level) n p h = (h.0, h.1, omega (arith, h.2))
 
-module _ (pin : Option Bool) (r q p : Port) (left k : ℕ) (l : 1 ≤ left) (g : Goes pin left p) (e : k ≡ deadline left p) (f : q ≡ counted_by k p) where
-  counted_ready : Ready (p.half + k) q
-  counted_ready = subst⁻¹ (Ready (p.half + k)) f (keep_counted_by k g.0 (omega (arith, g.1, (deadline_bounds p left k l e).1)))
-
-  counted_clocked : ClockGives pin 1 q
-  counted_clocked = go pin g.2
+module _ (pin : Option Bool) (p : Port) (left k : ℕ) (g : Goes pin left p) (e : Planned pin left k p) where
+  pub planned_bounds : (1 ≤ k) × (k ≤ left + 1)
+  planned_bounds = go pin e
     where
-      go : (b : Option Bool) → Held b left p → ClockGives b 1 q
-      go (Some level) h = refl
-      go None h = ap external f ∙ external_counted k p ∙ h
+      go : (b : Option Bool) → Planned b left k p → (1 ≤ k) × (k ≤ left + 1)
+      go None h = deadline_bounds p (left + 1) k (omega arith) h
+      go (Some level) h = (omega (arith, h), omega (arith, h))
 
-  pub counted_goes : Ready q.half q
-  counted_goes = own q (p.half + k) counted_ready
-
-  pub goes_on : r ≡ edge_work pin q → Goes pin (left - k) r
-  goes_on d =
-      let y : Ready (p.half + k) r = subst⁻¹ (Ready (p.half + k)) d (keep_work pin counted_ready) in
-      (own r (p.half + k) y, omega (arith, y.half≡, g.1, (deadline_bounds p left k l e).1), go pin g.2 counted_clocked d)
+  -- the edges that are left only count where none of them is the planned one
+  pub edges_end : (z : Port) → left < k → z ≡ counted_by left p → z ≡ edges pin left p
+  unfolding halves
+  edges_end z t d = go pin g.2 e
     where
-      go : (b : Option Bool) → Held b left p → ClockGives b 1 q → r ≡ edge_work b q → Held b (left - k) r
-      go (Some level) h x d = omega (arith, h)
-      go None h x d = ap external d ∙ work_internal q x
+      go : (b : Option Bool) → Held b left p → Planned b left k p → z ≡ edges b left p
+      go None x h = idle_halves z p left k g.0 g.1 x h t d
+      go (Some level) x h =
+          let none : left ≡ 0 = omega (arith, h, t) in
+          d ∙ ap (λ (m : ℕ). counted_by m p) none ∙ counted_none p ∙ sym (ap (λ (m : ℕ). edges (Some level) m p) none)
 
-  pub edges_on : (n : ℕ) (p₀ : Port) → r ≡ edge_work pin q → edges pin left p ≡ edges pin n p₀ → edges pin (left - k) r ≡ edges pin n p₀
-  unfolding advance
-  edges_on n p₀ d h = go pin g.2 d ∙ h
-    where
-      bounds : (1 ≤ k) × (k ≤ left)
-      bounds = deadline_bounds p left k l e
+  module _ (l : k ≤ left) (r q : Port) (f : q ≡ counted_by k p) where
+    counted_ready : Ready (p.half + k) q
+    counted_ready = subst⁻¹ (Ready (p.half + k)) f (keep_counted_by k g.0 (omega (arith, g.1, l)))
 
-      go : (b : Option Bool) → Held b left p → r ≡ edge_work b q → edges b (left - k) r ≡ edges b left p
-      go (Some level) h d =
-          let one : left ≡ 1 = omega (arith, h, l) in
-          let all : k ≡ 1 = omega (arith, h, bounds.0, bounds.1) in
-          let none : left - k ≡ 0 = omega (arith, one, all) in
-          ap (λ (m : ℕ). edges (Some level) m r) none ∙ d ∙ ap (edge_work (Some level)) (f ∙ ap (λ (m : ℕ). counted_by m p) all ∙ sym (one_counted p))
-          ∙ sym (ap (λ (m : ℕ). edges (Some level) m p) one)
-      go None h d =
-          ap (halves (left - k)) (d ∙ ap advance f ∙ skip_deadline p left k g.0 h l g.1 e) ∙ sym (halves_add k (left - k) p)
-          ∙ ap (λ (m : ℕ). halves m p) (omega (arith, bounds.1))
+    counted_clocked : ClockGives pin 1 q
+    counted_clocked = go pin g.2
+      where
+        go : (b : Option Bool) → Held b left p → ClockGives b 1 q
+        go (Some level) h = refl
+        go None h = ap external f ∙ external_counted k p ∙ h
 
-pub edges_none : (pin : Option Bool) (left : ℕ) (p : Port) → left ≡ 0 → p ≡ edges pin left p
-unfolding halves
-edges_none pin left p e = sym (ap (λ (m : ℕ). edges pin m p) e ∙ none pin)
-  where
-    none : (b : Option Bool) → edges b 0 p ≡ p
-    none None = refl
-    none (Some level) = refl
+    pub counted_goes : Ready q.half q
+    counted_goes = own q (p.half + k) counted_ready
+
+    pub goes_on : r ≡ edge_work pin q → Goes pin (left - k) r
+    goes_on d =
+        let y : Ready (p.half + k) r = subst⁻¹ (Ready (p.half + k)) d (keep_work pin counted_ready) in
+        (own r (p.half + k) y, omega (arith, y.half≡, g.1, l), go pin g.2 counted_clocked d)
+      where
+        go : (b : Option Bool) → Held b left p → ClockGives b 1 q → r ≡ edge_work b q → Held b (left - k) r
+        go (Some level) h x d = omega (arith, h)
+        go None h x d = ap external d ∙ work_internal q x
+
+    pub plan_on : (m : ℕ) → m ≡ deadline (left - k + 1) r → Planned pin (left - k) m r
+    plan_on m d = go pin g.2
+      where
+        go : (b : Option Bool) → Held b left p → Planned b (left - k) m r
+        go None h = d
+        go (Some level) h =
+            let b = deadline_bounds r (left - k + 1) m (omega arith) d in
+            omega (arith, h, planned_bounds.0, b.0, b.1)
+
+    pub edges_on : (n : ℕ) (p₀ : Port) → r ≡ edge_work pin q → edges pin left p ≡ edges pin n p₀ → edges pin (left - k) r ≡ edges pin n p₀
+    unfolding advance
+    edges_on n p₀ d h = go pin g.2 e d ∙ h
+      where
+        go : (b : Option Bool) → Held b left p → Planned b left k p → r ≡ edge_work b q → edges b (left - k) r ≡ edges b left p
+        go (Some level) h all d =
+            let one : left ≡ 1 = omega (arith, h, l, all) in
+            let none : left - k ≡ 0 = omega (arith, one, all) in
+            ap (λ (m : ℕ). edges (Some level) m r) none ∙ d ∙ ap (edge_work (Some level)) (f ∙ ap (λ (m : ℕ). counted_by m p) all ∙ sym (one_counted p))
+            ∙ sym (ap (λ (m : ℕ). edges (Some level) m p) one)
+        go None h plan d =
+            ap (halves (left - k)) (d ∙ ap advance f ∙ skip_deadline p left k g.0 h l g.1 plan) ∙ sym (halves_add k (left - k) p)
+            ∙ ap (λ (m : ℕ). halves m p) (omega (arith, l))

@@ -72,6 +72,11 @@ number Infrared = 3
 number Count = 4
 number State = 8
 
+-- what a call on a port in its place answers, and that port after it
+abbrev pub answered : Result ℕ Refusal → Port → Answer
+answered (Ok v) p = done v p
+answered (Err refusal) p = refuse (number refusal) p
+
 -- a refusal leaves the port as it was
 abbrev pub answer : Port → Result Called Refusal → Answer
 answer p (Ok r) = done r.value r.port

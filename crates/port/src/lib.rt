@@ -12,7 +12,7 @@ ghost use Rattle.shift.specs.Sender.{level};
 ghost use Rattle.port.specs.Sender.{character, loaded, preloaded, drive, begin, start_at, start_loaded, try_start_on, try_start, finish_tail, tailed, next_cell, send_step_on, advance_tx};
 ghost use Rattle.port.specs.Clocked.{sync_needed, refresh_sync_clock, take_bit, receive_bit, tail_ends, bit_out, shift_out, sync_edge};
 ghost use Rattle.port.specs.Half.{process_basic, halves, uncounted};
-ghost use Rattle.port.specs.Private.Skip.{arms_on, nothing_due, toggled, edge_of, edge_work, clock_fresh, deadline, counted_by, ClockGives, edges};
+ghost use Rattle.port.specs.Private.Skip.{arms_on, toggled, edge_of, edge_work, clock_fresh, deadline, counted_by, ClockGives, Planned, edges};
 ghost use Rattle.port.specs.Registers.{address, peek, read, sender_off, scr_tx, write_scr, write_tdr, status_write, stored, connect, load_tail, after_store, takes_writes, write};
 ghost use Rattle.port.specs.Power.{fresh, reset_registers, resets, reset, set_power};
 ghost use Rattle.port.specs.Input.{receive_input, external_edge};
@@ -26,10 +26,8 @@ use frame::Format;
 use register::Register;
 use shift::{Character, Rx, Sampled, Tx, due_valid, rx_next, rx_synchronous, rx_valid, within};
 
+mod calls;
 mod register;
-mod tested;
-
-pub use tested::Tested;
 
 // Number 4's limit on the half count.
 const LIMIT: u32 = 4_000_000_000;
@@ -259,7 +257,7 @@ impl Port {
     fn running(self) -> bool
         ensures { result ≡ running self }
     {
-        self.module & (!self.reset_mode & (self.main | (self.sub & (self.smr & 3 == 1))))
+        self.module && !self.reset_mode && (self.main || (self.sub && self.smr & 3 == 1))
     }
 
     // ---- the basic clock
@@ -291,15 +289,14 @@ impl Port {
     // ---- receive line
     // RXD now shows this level.
     #[tactic(auto, unfolding(crate::specs::Input::receive_input))]
-    fn receive_input(mut self, level: bool) -> Self
-        requires { self.half ≤ limit }
-        ensures { result ≡ receive_input level self }
+    fn receive_input(&mut self, level: bool)
+        requires { self.old.half ≤ limit }
+        ensures { self.new ≡ receive_input level self.old }
     {
         if level != self.input {
             self.input = level;
-            return self.arm_receive();
+            self.arm_receive();
         }
-        self
     }
 
     // ---- power
@@ -332,16 +329,16 @@ impl Port {
     }
 
     #[tactic(auto, using(crate::proofs::Keep::halved), unfolding(crate::specs::Power::set_power))]
-    fn powered(self, module: bool, main: bool, sub: bool, reset_mode: bool) -> Self
-        requires { self.half ≤ limit }
-        ensures { result ≡ set_power «module» main sub reset_mode self }
+    fn powered(&mut self, module: bool, main: bool, sub: bool, reset_mode: bool)
+        requires { self.old.half ≤ limit }
+        ensures { self.new ≡ set_power «module» main sub reset_mode self.old }
     {
-        let mut port = self.reset(module, reset_mode);
-        port.module = module;
-        port.main = main;
-        port.sub = sub;
-        port.reset_mode = reset_mode;
-        port.refresh_sync_clock()
+        *self = self.reset(module, reset_mode);
+        self.module = module;
+        self.main = main;
+        self.sub = sub;
+        self.reset_mode = reset_mode;
+        self.refresh_sync_clock();
     }
 
     // ---- registers
@@ -364,8 +361,8 @@ impl Port {
 
     // The port once a register has been read.
     #[tactic(auto, unfolding(crate::specs::Registers::read))]
-    fn after_read(mut self, register: Register) -> Self
-        ensures { result ≡ read (address register) self }
+    fn after_read(&mut self, register: Register)
+        ensures { self.new ≡ read (address register) self.old }
     {
         match register {
             Register::Ssr => self.seen = self.ssr,
@@ -375,57 +372,50 @@ impl Port {
             }
             _ => {}
         }
-        self
     }
 
-    fn sender_off(self) -> Self
-        ensures { result ≡ sender_off self }
+    fn sender_off(&mut self)
+        ensures { self.new ≡ sender_off self.old }
     {
-        Self {
-            uart: true,
-            ssr: self.ssr | 0x84,
-            tx: Tx::Off,
-            holding: None,
-            ..self
-        }
+        self.uart = true;
+        self.ssr |= 0x84;
+        self.tx = Tx::Off;
+        self.holding = None;
     }
 
     // TE newly set begins, in start-stop form, with a whole character of mark from the next boundary on.
-    fn scr_tx(self, was: bool, v: u8) -> Self
-        requires { self.half ≤ limit }
-        ensures { result ≡ scr_tx was v self }
+    fn scr_tx(&mut self, was: bool, v: u8)
+        requires { self.old.half ≤ limit }
+        ensures { self.new ≡ scr_tx was v self.old }
     {
         if v & 0x20 == 0 {
-            return self.sender_off();
+            self.sender_off();
+            return;
         }
         let format = self.format();
         if was | format.synchronous {
-            return self;
+            return;
         }
         let next = self.boundary(format.half_bit) + format.cells() * format.half_bit;
-        Self {
-            tx: Tx::Mark { next },
-            ..self
-        }
+        self.tx = Tx::Mark { next };
     }
 
     #[tactic(auto, unfolding(crate::specs::Registers::write_scr))]
-    fn write_scr(mut self, v: u8) -> Self
-        requires { self.half ≤ limit }
-        ensures { result ≡ write_scr v self }
+    fn write_scr(&mut self, v: u8)
+        requires { self.old.half ≤ limit }
+        ensures { self.new ≡ write_scr v self.old }
     {
         let was = self.scr & 0x20 != 0;
         self.scr = v & 0xf7;
-        let mut port = self.scr_tx(was, v);
+        self.scr_tx(was, v);
         if v & 0x10 == 0 {
-            port.rx = None;
+            self.rx = None;
         }
-        port
     }
 
     #[tactic(auto, unfolding(crate::specs::Registers::write_tdr))]
-    fn write_tdr(mut self, v: u8) -> Self
-        ensures { result ≡ write_tdr v self }
+    fn write_tdr(&mut self, v: u8)
+        ensures { self.new ≡ write_tdr v self.old }
     {
         self.tdr = v;
         if self.scr & 0x20 != 0 {
@@ -433,97 +423,93 @@ impl Port {
             self.seen &= 0x7b;
             self.holding = Some(v);
         }
-        self
     }
 
     // Bits that are seen and written 0 are cleared, of 0xf8. With nothing held, a cleared TDRE takes TDR into the holding place.
     #[tactic(auto, unfolding(crate::specs::Registers::status_with, crate::specs::Registers::status_write))]
-    fn status_write(mut self, v: u8) -> Self
-        ensures { result ≡ status_write v self }
+    fn status_write(&mut self, v: u8)
+        ensures { self.new ≡ status_write v self.old }
     {
         let ssr = self.ssr & (255 - (self.seen & (255 - v) & 0xf8));
         self.seen &= v;
         if self.scr & 0x20 == 0 {
             self.ssr = ssr | 0x80;
-            return self;
+            return;
         }
         if (ssr & 0x80 == 0) & self.holding.is_none() {
             self.ssr = ssr & 0xfb;
             self.holding = Some(self.tdr);
-            return self;
+            return;
         }
         self.ssr = ssr;
-        self
     }
 
     #[tactic(auto, unfolding(crate::specs::Registers::stored))]
-    fn stored(mut self, register: Register, v: u8) -> Self
-        requires { self.half ≤ limit }
-        ensures { result ≡ stored (address register) v self }
+    fn stored(&mut self, register: Register, v: u8)
+        requires { self.old.half ≤ limit }
+        ensures { self.new ≡ stored (address register) v self.old }
     {
         match register {
             Register::Spcr => self.spcr = v & 0x13 | 0xc0,
             Register::Smr => self.smr = v,
             Register::Brr => self.brr = v,
-            Register::Scr => return self.write_scr(v),
-            Register::Tdr => return self.write_tdr(v),
-            Register::Ssr => return self.status_write(v),
+            Register::Scr => self.write_scr(v),
+            Register::Tdr => self.write_tdr(v),
+            Register::Ssr => self.status_write(v),
             Register::Rdr => {}
             Register::Semr => self.semr = v & 8,
             Register::Ircr => self.ircr = v & 0xf0,
         }
-        self
     }
 
     // The external clock newly chosen, the phase is the clock pin's.
     #[tactic(auto, unfolding(crate::specs::Registers::connect))]
-    fn connect(mut self, was: bool) -> Self
-        ensures { result ≡ connect was self }
+    fn connect(&mut self, was: bool)
+        ensures { self.new ≡ connect was self.old }
     {
         if !was & self.external() {
             self.high = self.input_clock;
             self.sync_next = None;
         }
-        self
     }
 
     // A tail with no next word takes what is held.
     #[tactic(auto, unfolding(crate::specs::Registers::load_tail))]
-    fn load_tail(self) -> Self
-        ensures { result ≡ load_tail self }
+    fn load_tail(&mut self)
+        ensures { self.new ≡ load_tail self.old }
     {
         match self.tx {
             Tx::Tail { loaded: None, next } if self.holding.is_some() => self.tailed(next),
-            _ => self,
+            _ => {}
         }
     }
 
     // What follows every store.
     #[tactic(auto, using(crate::proofs::Keep::load_tail_ready, crate::proofs::Keep::try_start_ready, crate::proofs::Keep::ready_half, crate::proofs::Keep::ready_tx), unfolding(crate::specs::Registers::after_store))]
-    fn after_store(self) -> Self
-        requires { Ready self.half self }
-        ensures { result ≡ after_store self }
+    fn after_store(&mut self)
+        requires { Ready self.old.half self.old }
+        ensures { self.new ≡ after_store self.old }
     {
-        self.load_tail()
-            .try_start()
-            .arm_receive()
-            .refresh_sync_clock()
+        self.load_tail();
+        self.try_start();
+        self.arm_receive();
+        self.refresh_sync_clock();
     }
 
     #[tactic(auto, using(crate::proofs::Keep::stored_ready, crate::proofs::Keep::connect_ready), unfolding(crate::specs::Registers::write))]
-    fn written(self, register: Register, v: u8) -> Self
-        requires { Ready self.half self }
-        ensures { result ≡ write (address register) v self }
+    fn written(&mut self, register: Register, v: u8)
+        requires { Ready self.old.half self.old }
+        ensures { self.new ≡ write (address register) v self.old }
     {
         if self.module & !self.reset_mode {
             let external = self.external();
-            return self.stored(register, v).connect(external).after_store();
+            self.stored(register, v);
+            self.connect(external);
+            self.after_store();
         }
-        self
     }
 
     // ---- sender
-    // A branch that hands the port to a large step hands it a copy of its own (`last`): else the compiler keeps the port of every branch in memory.
     fn character(self, value: u8) -> Character
         ensures value { result ≡ character self value }
         ensures bounded { Bounded result.format }
@@ -546,47 +532,43 @@ impl Port {
     }
 
     #[tactic(auto, unfolding(crate::specs::Sender::preloaded))]
-    fn preloaded(mut self) -> Self
-        ensures value { result ≡ preloaded self }
-        ensures kept { result.half ≡ self.half }
+    fn preloaded(&mut self)
+        ensures value { self.new ≡ preloaded self.old }
+        ensures kept { self.new.half ≡ self.old.half }
     {
         if self.holding.take().is_some() {
             self.ssr = (self.ssr | 0x80) & 0xfb;
         } else {
             self.ssr |= 4;
         }
-        self
     }
 
     // A word's last cells, with the next one loaded.
-    fn tailed(self, next: Option<u32>) -> Self
-        ensures { result ≡ tailed self next }
+    fn tailed(&mut self, next: Option<u32>)
+        ensures { self.new ≡ tailed self.old next }
     {
         let loaded = self.loaded();
-        Self {
-            tx: Tx::Tail { loaded, next },
-            ..self.preloaded()
-        }
+        self.preloaded();
+        self.tx = Tx::Tail { loaded, next };
     }
 
-    fn drive(mut self, high: bool) -> Self
-        ensures value { result ≡ drive self high }
-        ensures kept { result.half ≡ self.half }
+    fn drive(&mut self, high: bool)
+        ensures value { self.new ≡ drive self.old high }
+        ensures kept { self.new.half ≡ self.old.half }
     {
         self.uart = high;
         self.bit_start = self.half;
-        self
     }
 
     // A word's first cell.
     #[tactic(auto, unfolding(crate::specs::Sender::begin))]
-    fn begin(mut self, character: Character) -> Self
-        requires { (self.half ≤ limit) × Bounded character.format }
-        ensures { result ≡ begin self character }
+    fn begin(&mut self, character: Character)
+        requires { (self.old.half ≤ limit) × Bounded character.format }
+        ensures { self.new ≡ begin self.old character }
     {
         let mut next = None;
         if !character.format.synchronous {
-            self = self.drive(character.word & 1 != 0);
+            self.drive(character.word & 1 != 0);
             next = Some(self.half + character.format.half_bit);
         }
         self.tx = Tx::Data {
@@ -594,111 +576,109 @@ impl Port {
             cell: 0,
             next,
         };
-        self
     }
 
     // A start-stop word begins where a cell can.
     #[tactic(auto, unfolding(crate::specs::Sender::start_at))]
-    fn start_at_boundary(mut self, character: Character) -> Self
-        requires { (self.half ≤ limit) × Bounded character.format }
-        ensures { result ≡ start_at self character (boundary self character.format.half_bit) }
+    fn start_at_boundary(&mut self, character: Character)
+        requires { (self.old.half ≤ limit) × Bounded character.format }
+        ensures { self.new ≡ start_at self.old character (boundary self.old character.format.half_bit) }
     {
         let next = self.boundary(character.format.half_bit);
         if next == self.half {
-            return self.begin(character);
+            self.begin(character);
+            return;
         }
         self.tx = Tx::Start { character, next };
-        self
     }
 
     // A loaded word begins: a clocked one at once, a start-stop one where a cell can.
-    fn start_loaded(self) -> Self
-        requires { self.half ≤ limit }
-        ensures { result ≡ start_loaded (loaded self) (preloaded self) }
+    fn start_loaded(&mut self)
+        requires { self.old.half ≤ limit }
+        ensures { self.new ≡ start_loaded (loaded self.old) (preloaded self.old) }
     {
         let loaded = self.loaded();
-        let port = self.preloaded();
+        self.preloaded();
         match loaded {
-            None => port,
-            Some(character) if character.format.synchronous => port.begin(character),
-            Some(character) => port.start_at_boundary(character),
+            None => {}
+            Some(character) if character.format.synchronous => self.begin(character),
+            Some(character) => self.start_at_boundary(character),
         }
     }
 
     // A held byte is taken by an absent sender; in clocked form not while an error flag stands.
-    fn load_held(self) -> Self
-        requires { self.half ≤ limit }
-        ensures { result ≡ try_start_on Off self }
+    fn load_held(&mut self)
+        requires { self.old.half ≤ limit }
+        ensures { self.new ≡ try_start_on Off self.old }
     {
         let format = self.format();
         let held = self.holding.is_some();
         if (self.scr & 0x20 != 0) & (held & (!format.synchronous | (self.ssr & 0x38 == 0))) {
-            return self.start_loaded();
+            self.start_loaded();
         }
-        self
     }
 
     // A held byte or a blocked word begins. Inlined: most stores begin nothing, and the tests are cheaper than a call.
     #[inline(always)]
     #[tactic(auto, unfolding(crate::specs::Sender::try_start))]
-    fn try_start(self) -> Self
-        requires { (self.half ≤ limit) × Sendable self.tx }
-        ensures { result ≡ try_start self }
+    fn try_start(&mut self)
+        requires { (self.old.half ≤ limit) × Sendable self.old.tx }
+        ensures { self.new ≡ try_start self.old }
     {
         match self.tx {
             Tx::Off if self.holding.is_some() => self.load_held(),
             Tx::Blocked { character } if self.ssr & 0x38 == 0 => self.begin(character),
-            _ => self,
+            _ => {}
         }
     }
 
     // The tail ends: a word is finished. A clocked word does not begin while an error flag stands.
-    fn finish_tail(mut self, loaded: Option<Character>) -> Self
-        requires { (self.half ≤ limit) × LoadedBounded loaded }
-        ensures { result ≡ finish_tail loaded self }
+    fn finish_tail(&mut self, loaded: Option<Character>)
+        requires { (self.old.half ≤ limit) × LoadedBounded loaded }
+        ensures { self.new ≡ finish_tail loaded self.old }
     {
         self.transmitted = self.transmitted.wrapping_add(1);
         self.tx = Tx::Off;
         let Some(character) = loaded else {
-            return self.try_start();
+            self.try_start();
+            return;
         };
         if character.format.synchronous & (self.ssr & 0x38 != 0) {
             self.tx = Tx::Blocked { character };
-            return self;
+            return;
         }
-        self.begin(character)
+        self.begin(character);
     }
 
     // A cell of a start-stop word.
     #[tactic(auto, unfolding(crate::specs::Sender::next_cell))]
-    fn next_cell(self, character: Character, cell: u8) -> Self
-        requires { (self.half ≤ limit) × Bounded character.format × (cell ≤ 10) }
-        ensures { result ≡ next_cell character cell self }
+    fn next_cell(&mut self, character: Character, cell: u8)
+        requires { (self.old.half ≤ limit) × Bounded character.format × (cell ≤ 10) }
+        ensures { self.new ≡ next_cell character cell self.old }
     {
-        let mut port = self.drive(level(character, cell));
+        self.drive(level(character, cell));
         let format = character.format;
         if u32::from(cell) == format.stop() {
             let next = Some(self.half + u32::from(format.stops) * format.half_bit);
-            let last = port;
-            return last.tailed(next);
+            self.tailed(next);
+            return;
         }
-        port.tx = Tx::Data {
+        self.tx = Tx::Data {
             character,
             cell,
             next: Some(self.half + format.half_bit),
         };
-        port
     }
 
-    fn send_step(mut self) -> Self
-        requires { (self.half ≤ limit) × Sendable self.tx }
-        ensures { result ≡ send_step_on self.tx self }
+    fn send_step(&mut self)
+        requires { (self.old.half ≤ limit) × Sendable self.old.tx }
+        ensures { self.new ≡ send_step_on self.old.tx self.old }
     {
         match self.tx {
-            Tx::Off | Tx::Blocked { .. } => self,
+            Tx::Off | Tx::Blocked { .. } => {}
             Tx::Mark { .. } => {
                 self.tx = Tx::Off;
-                self.try_start()
+                self.try_start();
             }
             Tx::Start { character, .. } => self.begin(character),
             Tx::Data {
@@ -712,17 +692,16 @@ impl Port {
 
     // The sender's step, at the half on which it is due.
     #[tactic(auto, unfolding(crate::specs::Sender::advance_tx))]
-    fn advance_tx(self) -> Self
-        requires { (self.half ≤ limit) × Sendable self.tx }
-        ensures { result ≡ advance_tx self }
+    fn advance_tx(&mut self)
+        requires { (self.old.half ≤ limit) × Sendable self.old.tx }
+        ensures { self.new ≡ advance_tx self.old }
     {
         let Some(due) = self.tx.next() else {
-            return self;
+            return;
         };
-        if due != self.half {
-            return self;
+        if due == self.half {
+            self.send_step();
         }
-        self.send_step()
     }
 
     // ---- receiver
@@ -745,81 +724,63 @@ impl Port {
         (self.scr & 0x10 != 0) & ((self.ssr & 0x38 == 0) & (!format.synchronous & !level))
     }
 
-    fn armed(mut self) -> Self
-        requires { self.half ≤ limit }
-        ensures { result ≡ with_rx self (Some (armed (format_of self) (next_fall self))) }
-    {
-        self.rx = Some(Rx::armed(self.format(), self.next_fall()));
-        self
-    }
-
-    // A word begins in an empty receiver, where the line asks for one. Inlined, so that the port is copied only where one begins.
-    #[inline(always)]
+    // A word begins in an empty receiver, where the line asks for one.
     #[tactic(auto, unfolding(crate::specs::Receiver::arm_receive))]
-    fn arm_receive(self) -> Self
-        requires { self.half ≤ limit }
-        ensures value { result ≡ arm_receive self }
-        ensures kept { result.half ≡ self.half }
+    fn arm_receive(&mut self)
+        requires { self.old.half ≤ limit }
+        ensures value { self.new ≡ arm_receive self.old }
+        ensures kept { self.new.half ≡ self.old.half }
     {
         if self.arms_now() {
-            return self.armed();
+            self.rx = Some(Rx::armed(self.format(), self.next_fall()));
         }
-        self
     }
 
     // A whole word, the receiver being empty again.
     #[tactic(auto, unfolding(crate::specs::Receiver::complete_receive))]
-    fn complete_receive(mut self, rx: Rx) -> Self
-        ensures { result ≡ complete_receive self rx }
+    fn complete_receive(&mut self, rx: Rx)
+        ensures { self.new ≡ complete_receive self.old rx }
     {
         if self.ssr & 0x40 != 0 {
             self.ssr |= rx.error | 0x20;
-            return self;
+            return;
         }
         self.rdr = rx.value;
         if rx.error == 0 {
             self.ssr |= 0x40;
             self.received = self.received.wrapping_add(1);
-            return self;
+            return;
         }
         self.ssr |= rx.error;
-        self
     }
 
-    fn after_sample(mut self, sampled: Sampled) -> Self
-        ensures { result ≡ after_sample sampled self }
+    fn after_sample(&mut self, sampled: Sampled)
+        ensures { self.new ≡ after_sample sampled self.old }
     {
         match sampled {
-            Sampled::Dropped => {
-                self.rx = None;
-                self
-            }
-            Sampled::Onward(rx) => {
-                self.rx = Some(rx);
-                self
-            }
+            Sampled::Dropped => self.rx = None,
+            Sampled::Onward(rx) => self.rx = Some(rx),
             Sampled::Whole(rx) => {
                 self.rx = None;
-                self.complete_receive(rx)
+                self.complete_receive(rx);
             }
         }
     }
 
     // The receiver's step, at the half on which it is due.
     #[tactic(auto, unfolding(crate::specs::Receiver::advance_rx))]
-    fn advance_rx(self) -> Self
-        requires { (self.half ≤ limit) × PlacedIn self.rx }
-        ensures { result ≡ advance_rx self }
+    fn advance_rx(&mut self)
+        requires { (self.old.half ≤ limit) × PlacedIn self.old.rx }
+        ensures { self.new ≡ advance_rx self.old }
     {
         let Some(rx) = self.rx else {
-            return self;
+            return;
         };
-        if rx.next != Some(self.half) {
-            return self;
+        if rx.next == Some(self.half) {
+            let format = self.format();
+            let level = self.input_level();
+            self.after_sample(sampled(rx, format, level, self.half));
         }
-        let format = self.format();
-        let level = self.input_level();
-        self.after_sample(sampled(rx, format, level, self.half))
     }
 
     // ---- clocked form
@@ -834,9 +795,9 @@ impl Port {
     }
 
     #[tactic(auto, unfolding(crate::specs::Clocked::refresh_sync_clock))]
-    fn refresh_sync_clock(mut self) -> Self
-        requires { self.half ≤ limit }
-        ensures { result ≡ refresh_sync_clock self }
+    fn refresh_sync_clock(&mut self)
+        requires { self.old.half ≤ limit }
+        ensures { self.new ≡ refresh_sync_clock self.old }
     {
         if self.external() {
             self.sync_next = None;
@@ -846,73 +807,70 @@ impl Port {
             self.sck = true;
             self.sync_next = None;
         }
-        self
     }
 
     #[tactic(auto, unfolding(crate::specs::Clocked::take_bit))]
-    fn take_bit(mut self, rx: Rx) -> Self
+    fn take_bit(&mut self, rx: Rx)
         requires { Placed rx × (rx.format.synchronous ≡ true) }
-        ensures { result ≡ take_bit self rx }
+        ensures { self.new ≡ take_bit self.old rx }
     {
         let taken = bit_taken(rx, self.input_level());
         if rx.last_bit() {
             self.rx = None;
-            return self.complete_receive(taken);
+            self.complete_receive(taken);
+            return;
         }
         self.rx = Some(taken);
-        self
     }
 
     // A clocked word goes on, or begins; it waits while an error flag stands.
     #[tactic(auto, unfolding(crate::specs::Clocked::receive_bit))]
-    fn receive_bit(self) -> Self
-        requires { PlacedIn self.rx }
-        ensures { result ≡ receive_bit self }
+    fn receive_bit(&mut self)
+        requires { PlacedIn self.old.rx }
+        ensures { self.new ≡ receive_bit self.old }
     {
         if (self.scr & 0x10 != 0) & (self.ssr & 0x38 == 0) {
             let rx = self.rx.unwrap_or(Rx::clocked(self.format()));
             if rx.format.synchronous {
-                return self.take_bit(rx);
+                self.take_bit(rx);
             }
         }
-        self
     }
 
     // A tail of a clocked word ends.
     #[tactic(auto, unfolding(crate::specs::Clocked::tail_ends))]
-    fn tail_ends(self) -> Self
-        requires { (self.half ≤ limit) × Sendable self.tx }
-        ensures { result ≡ tail_ends self }
+    fn tail_ends(&mut self)
+        requires { (self.old.half ≤ limit) × Sendable self.old.tx }
+        ensures { self.new ≡ tail_ends self.old }
     {
         match self.tx {
             Tx::Tail { loaded, next: None } => self.finish_tail(loaded),
-            _ => self,
+            _ => {}
         }
     }
 
     // A bit of a clocked word.
     #[tactic(auto, unfolding(crate::specs::Clocked::bit_out))]
-    fn bit_out(self, character: Character, cell: u8) -> Self
+    fn bit_out(&mut self, character: Character, cell: u8)
         requires { cell ≤ 9 }
-        ensures { result ≡ bit_out character cell self }
+        ensures { self.new ≡ bit_out character cell self.old }
     {
-        let mut port = self.drive(level(character, cell));
+        self.drive(level(character, cell));
         if cell == 7 {
-            let last = port;
-            return last.tailed(None);
+            self.tailed(None);
+            return;
         }
-        port.tx = Tx::Data {
+        self.tx = Tx::Data {
             character,
             cell: cell + 1,
             next: None,
         };
-        port
     }
 
     #[tactic(auto, unfolding(crate::specs::Clocked::shift_out))]
-    fn shift_out(self) -> Self
-        requires { Sendable self.tx }
-        ensures { result ≡ shift_out self }
+    fn shift_out(&mut self)
+        requires { Sendable self.old.tx }
+        ensures { self.new ≡ shift_out self.old }
     {
         match self.tx {
             Tx::Data {
@@ -920,20 +878,22 @@ impl Port {
                 cell,
                 next: None,
             } => self.bit_out(character, cell),
-            _ => self,
+            _ => {}
         }
     }
 
     // An edge of the clock, to this level.
     #[tactic(auto, using(crate::proofs::Keep::receive_bit_ready, crate::proofs::Keep::ready_half, crate::proofs::Keep::ready_tx), unfolding(crate::specs::Clocked::sync_edge))]
-    fn sync_edge(self, high: bool) -> Self
-        requires { Ready self.half self }
-        ensures { result ≡ sync_edge high self }
+    fn sync_edge(&mut self, high: bool)
+        requires { Ready self.old.half self.old }
+        ensures { self.new ≡ sync_edge high self.old }
     {
         if high {
-            return self.receive_bit().tail_ends();
+            self.receive_bit();
+            self.tail_ends();
+        } else {
+            self.shift_out();
         }
-        self.shift_out()
     }
 
     // ---- pins in
@@ -947,70 +907,50 @@ impl Port {
 
     // The line, then an edge of the clock pin where it counts.
     #[tactic(auto, unfolding(crate::specs::Input::external_edge))]
-    fn with_pins(self, clock: bool, line: bool) -> Self
-        requires { Ready self.half self × (edge_counts clock self ≡ true → self.half < limit) }
-        ensures { result ≡ external_edge clock (with_input_clock (receive_input line self) clock) }
+    fn with_pins(&mut self, clock: bool, line: bool)
+        requires { Ready self.old.half self.old × (edge_counts clock self.old ≡ true → self.old.half < limit) }
+        ensures { self.new ≡ external_edge clock (with_input_clock (receive_input line self.old) clock) }
     {
-        let mut port = self.receive_input(line);
-        port.input_clock = clock;
-        if port.edge_counts(clock) {
-            return port.edges(1, Some(clock));
+        self.receive_input(line);
+        self.input_clock = clock;
+        if self.edge_counts(clock) {
+            self.edges(1, 1, Some(clock));
         }
-        port
     }
 
     // ---- one half
-    // Whether the basic work has nothing to do at this half.
-    #[tactic(auto, unfolding(crate::specs::Private::Skip::nothing_due))]
-    fn nothing_due(self) -> bool
-        ensures { result ≡ nothing_due self }
-    {
-        let now = Some(self.half);
-        let sends = self.tx.next() == now;
-        let receives = rx_next(self.rx) == now;
-        let arms = self.arms_now();
-        !sends & (!receives & !arms)
-    }
-
     // The basic work at a half.
     #[tactic(auto, using(crate::proofs::Keep::advance_tx_ready, crate::proofs::Keep::advance_rx_ready, crate::proofs::Keep::ready_half, crate::proofs::Keep::ready_rx), unfolding(crate::specs::Half::process_basic, crate::specs::Receiver::arm_receive))]
-    fn process_basic(self) -> Self
-        requires { Ready self.half self }
-        ensures { result ≡ process_basic self }
+    fn process_basic(&mut self)
+        requires { Ready self.old.half self.old }
+        ensures { self.new ≡ process_basic self.old }
     {
-        if self.nothing_due() {
-            return self;
-        }
-        let port = self.advance_tx().advance_rx();
-        // `arm_receive`, written out: inlined here it takes a word of zeros received from 1.07 to 1.17 of the reference's time.
-        if port.arms_now() {
-            return port.armed();
-        }
-        port
+        self.advance_tx();
+        self.advance_rx();
+        self.arm_receive();
     }
 
     // The port's own clock toggles; an edge of the pin leaves it as it is.
-    fn toggled(mut self, pin: Option<bool>) -> Self
-        ensures { result ≡ toggled pin self }
+    fn toggled(&mut self, pin: Option<bool>)
+        ensures { self.new ≡ toggled pin self.old }
     {
         if pin.is_none() {
             self.sck = !self.sck;
             self.sync_next = None;
         }
-        self
     }
 
     // An edge of clocked form's clock: the pin's, or the port's own at its due half.
     #[tactic(auto, using(crate::proofs::Skip::edge_t, crate::proofs::Skip::edge_f, crate::proofs::Skip::toggled_ready))]
-    fn clocked_edge(self, pin: Option<bool>) -> Self
-        requires { Ready self.half self }
-        ensures { result ≡ edge_of pin self }
+    fn clocked_edge(&mut self, pin: Option<bool>)
+        requires { Ready self.old.half self.old }
+        ensures { self.new ≡ edge_of pin self.old }
     {
         if pin.is_some() | (self.sync_next == Some(self.half)) {
             let high = pin.unwrap_or(!self.sck);
-            return self.toggled(pin).sync_edge(high);
+            self.toggled(pin);
+            self.sync_edge(high);
         }
-        self
     }
 
     // Whether the clock of clocked form is as a refresh leaves it.
@@ -1027,11 +967,13 @@ impl Port {
 
     // The work of an edge of the basic clock, once it is counted.
     #[tactic(auto, using(crate::proofs::Keep::process_basic_ready, crate::proofs::Skip::edge_ready, crate::proofs::Keep::ready_half))]
-    fn advance(self, pin: Option<bool>) -> Self
-        requires { Ready self.half self }
-        ensures { result ≡ edge_work pin self }
+    fn advance(&mut self, pin: Option<bool>)
+        requires { Ready self.old.half self.old }
+        ensures { self.new ≡ edge_work pin self.old }
     {
-        self.process_basic().clocked_edge(pin).refresh_sync_clock()
+        self.process_basic();
+        self.clocked_edge(pin);
+        self.refresh_sync_clock();
     }
 
     // The halves up to the next one that may do more than count, at most left. Inlined: the loop of `edges` is a third slower where it is called.
@@ -1050,53 +992,51 @@ impl Port {
 
     // k halves counted at once.
     #[tactic(auto, unfolding(crate::specs::Private::Skip::counted_by))]
-    fn counted_by(mut self, k: u32) -> Self
-        requires { self.half + k ≤ limit }
-        ensures { result ≡ counted_by k self }
+    fn counted_by(&mut self, k: u32)
+        requires { self.old.half + k ≤ limit }
+        ensures { self.new ≡ counted_by k self.old }
     {
         self.half += k;
         self.high ^= k % 2 != 0;
-        self.edge = true;
-        self
+        self.edge = (k != 0) | self.edge;
     }
 
-    // n halves of the internal clock, or one edge of the clock pin to its level. From a half at which something may happen to the next they are counted at
-    // once. Both are here, so that the work of an edge has one caller and the compiler keeps the port's fields apart in the loop. It goes on by what `deadline`
-    // gives, so no range counts it.
-    fn edges(self, n: u32, pin: Option<bool>) -> Self
-        requires { Ready self.half self × (self.half + n ≤ limit) × ClockGives pin n self }
-        ensures { result ≡ edges pin n self }
+    // n halves of the internal clock, or one edge of the clock pin to its level. The first at which something may happen is the one after so many; from there
+    // the halves to the next such are counted at once, and so are the ones after the last. It goes on by what `deadline` gives, so no range counts it.
+    fn edges(&mut self, n: u32, first: u32, pin: Option<bool>)
+        requires { Ready self.old.half self.old × (self.old.half + n ≤ limit) × ClockGives pin n self.old × Planned pin n first self.old }
+        ensures { self.new ≡ edges pin n self.old }
     {
-        let mut port = self;
         let mut left = n;
-        while left > 0 {
-            let k = port.deadline(left);
-            port = port.counted_by(k).advance(pin);
-            left -= k;
+        let mut next = first;
+        while next <= left {
+            self.counted_by(next);
+            self.advance(pin);
+            left -= next;
+            next = self.deadline(left + 1);
         }
-        port
+        self.counted_by(left);
     }
 
-    // n halves of the internal clock. A due half is at most 448 ahead, so only a longer wait is likely to be idle.
+    // n halves of the internal clock. An idle wait does not pay for a call of the loop.
     #[tactic(auto, using(crate::proofs::Skip::idle_halves))]
-    fn halves(self, n: u32) -> Self
-        requires { Ready self.half self × (self.half + n ≤ limit) × (external self ≡ false) }
-        ensures { result ≡ halves n self }
+    fn halves(&mut self, n: u32)
+        requires { Ready self.old.half self.old × (self.old.half + n ≤ limit) × (external self.old ≡ false) }
+        ensures { self.new ≡ halves n self.old }
     {
-        if n > 448 {
-            if self.deadline(n + 1) > n {
-                return self.counted_by(n);
-            }
+        let first = self.deadline(n + 1);
+        if first > n {
+            self.counted_by(n);
+        } else {
+            self.edges(n, first, None);
         }
-        self.edges(n, None)
     }
 
     // n halves' time on a port whose internal clock does not count; with n not 0, time inside the half.
-    fn uncounted(mut self, n: u32) -> Self
-        ensures { result ≡ uncounted n self }
+    fn uncounted(&mut self, n: u32)
+        ensures { self.new ≡ uncounted n self.old }
     {
         self.edge &= n == 0;
-        self
     }
 }
 
@@ -1163,17 +1103,16 @@ impl From<Refusal> for u8 {
 }
 
 impl Port {
-    fn done(self, value: u8) -> Called
-        ensures { answer self (Ok result) ≡ done value self }
-    {
-        Called { value, port: self }
-    }
-
-    // The direct direct call, for any port.
+    // The direct call, for any port.
     #[tactic(auto, unfolding(crate::specs::Calls::direct))]
     pub fn direct(self, call: Call) -> Result<Called, Refusal>
         ensures { answer self result ≡ direct call self }
     {
-        Tested::try_from(self)?.called(call)
+        if !self.valid() {
+            return Err(Refusal::State);
+        }
+        let mut port = self;
+        let value = port.call(call)?;
+        Ok(Called { value, port })
     }
 }

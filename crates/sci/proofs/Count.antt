@@ -1,6 +1,6 @@
 -- Cycle by cycle is the arithmetic: what one cycle more makes of its terms, and by induction the claim of specs/Count.antt.
 -- Assumes nothing.
-use Rattle.std.proofs.Common.{◌≡◌, ℕ, zero, suc, ◌+◌, ◌-◌, ◌*◌, ◌/◌, ◌%◌, ◌≤◌, ◌<◌, cond, eqb, refl, ◌∙◌, arith}
+use Rattle.std.proofs.Common.{◌≡◌, ℕ, zero, suc, ◌+◌, ◌-◌, ◌*◌, ◌/◌, ◌%◌, ◌≤◌, ◌<◌, Bool, true, false, ◌&&◌, cond, eqb, ltb, subst, refl, ◌∙◌, arith}
 use Rattle.std.proofs.Math.Nat.{mod-lt, div-one, div-eq_of_lt, div-eq-sub-div, mod-eq_of_lt, mod-eq-sub-mod, div-mul-le_self, le-div_iff_mul-le, suc-mul}
 use Rattle.std.proofs.lemmas.Nat.{div-add-mod'}
 use Rattle.std.proofs.lemmas.Bool.Decides.{nat_tests}
@@ -85,3 +85,41 @@ rest_below x r h = mod-lt x h
 pub ticks_one : (t n : ℕ) → ticks_in 1 t n ≡ n
 unfolding ticks_in
 ticks_one t n = rw (div-one (t + n), div-one t) (omega arith)
+
+-- ---- whether the last cycle counts a half
+-- it is a tick where the total becomes a multiple of the divider
+ticks_last : (d t n : ℕ) → 0 < d → ticks_in d t (suc n) ≡ cond (eqb ((t + suc n) % d) 0) (suc (ticks_in d t n)) (ticks_in d t n)
+unfolding ticks_in
+ticks_last d t n h =
+    let e : t + suc n ≡ suc (t + n) = omega arith in
+    let l : t / d ≤ (t + n) / d = (le-div_iff_mul-le h).1 (omega (arith, div-mul-le_self t d)) in
+    rw e (grind (arith, div_suc (t + n) d h, nat_tests))
+
+-- a tick counts one where a whole number of reloads is past
+halves_last : (l r k : ℕ) → 0 < r → l ≤ suc k → ltb (halves_in l r k) (halves_in l r (suc k)) ≡ eqb ((suc k - l) % r) 0
+unfolding halves_in
+halves_last l r k h g =
+    either_way (eqb l (suc k))
+    (λ e. let same : l ≡ suc k = eqb-true l (suc k) e in grind (arith, nat_tests, same, div-eq_of_lt {n = 0} {m = r}, mod-eq_of_lt {n = 0} {m = r}))
+    (λ e.
+    let more : l ≤ k = omega (arith, g, eqb-false l (suc k) e) in
+    let past : suc k - l ≡ suc (k - l) = omega (arith, more) in
+    rw past (grind (arith, nat_tests, more, div_suc (k - l) r h)))
+
+pub edge_last : (d r t l n : ℕ) → 0 < d → 0 < r → 0 < l → l ≤ ticks_in d t n
+    → ltb (halves_in l r (ticks_in d t (n - 1))) (halves_in l r (ticks_in d t n)) ≡ (eqb ((t + n) % d) 0 && eqb ((ticks_in d t n - l) % r) 0)
+edge_last d r t l zero hd hr hl g = absurd (omega (arith, g, hl, ticks_none d t))
+edge_last d r t l (suc n) hd hr hl g = last (eqb ((t + suc n) % d) 0) (ticks_in d t (suc n)) (ticks_last d t n hd) g
+  where
+    k : ℕ
+    k = ticks_in d t n
+
+    less : suc n - 1 ≡ n
+    less = omega arith
+
+    none : ltb (halves_in l r k) (halves_in l r k) ≡ false
+    none = grind (arith, nat_tests)
+
+    last : (b : Bool) (m : ℕ) → m ≡ cond b (suc k) k → l ≤ m → ltb (halves_in l r (ticks_in d t (suc n - 1))) (halves_in l r m) ≡ (b && eqb ((m - l) % r) 0)
+    last true m e g = rw (less, e) (halves_last l r k hr (subst (λ (x : ℕ). l ≤ x) e g))
+    last false m e g = rw (less, e) none

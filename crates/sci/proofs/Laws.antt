@@ -77,7 +77,7 @@ module _ (s : Sci) (byte : s.port.brr < 256) (v : valid s ≡ true) where
     where
       go : (a : PortAnswer) → a ≡ port_called c s.port → Passes (port_lifted c s a)
       go (port_done w q) e =
-          let k = remains s.port s.baud.remaining byte (b.some, b.few) c (accepted_in_range c s.port (record { value = w; port = q }) e) in
+          let k = remains s.port s.baud.remaining byte (b.some, b.few) c (accepted_in_range c s.port q w e) in
           on_port_kept s v c w q e _ k.0 k.1
       go (port_refused m offset q) e = tt
   called_passes (Cycles source n) =

@@ -2,7 +2,7 @@
 -- Assumes nothing.
 use mathlib.Core.Path.{◌≡◌, sym, subst}
 use mathlib.Core.Bool.{true}
-use Prim.Native.Nat.{◌≤◌, ◌<◌}
+use Prim.Native.Nat.{ℕ, ◌≤◌, ◌<◌}
 use native.Mathlib.Omega.{arith}
 use lib.Dec.{leb}
 use borrow.Author.Tests.{leb-true}
@@ -14,7 +14,6 @@ use Rattle.command.specs.declared.Source.{Source}
 use Rattle.command.specs.declared.Source.TheVariants.{System, Watch}
 use Rattle.command.specs.Command.{in_range}
 use Rattle.port.specs.declared.Port.{Port}
-use Rattle.port.specs.declared.Called.{Called}
 use Rattle.port.specs.Valid.{valid as port_valid}
 use Rattle.port.specs.Calls.{Answer, done, refused, ranged, called}
 use Rattle.sci.specs.declared.Sci.{Sci}
@@ -74,5 +73,5 @@ ranged_of c p = by_cond (Ranged c) (in_range (OnPort c)) _ _ (λ e. ranged_in (r
     ranged_in (done v q) e = e
     ranged_in (refused n offset q) e = tt
 
-pub accepted_in_range : (c : Call) (p : Port) (r : Called) → done r.value r.port ≡ called c p → in_range (OnPort c) ≡ true
-accepted_in_range c p r e = subst (Ranged c) (sym e) (ranged_of c p)
+pub accepted_in_range : (c : Call) (p q : Port) (v : ℕ) → done v q ≡ called c p → in_range (OnPort c) ≡ true
+accepted_in_range c p q v e = subst (Ranged c) (sym e) (ranged_of c p)

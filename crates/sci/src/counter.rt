@@ -14,9 +14,17 @@ pub struct Counter {
     pub ghost sound: { (0 < divider) × (total ≤ 281474976710656) × (0 < remaining) × (remaining ≤ 256) × (0 < reload) × (reload ≤ 256) },
 }
 
+// What cycles make of it: the halves that they count, the ticks to the next half after them, and whether the last one counts a half or there is none.
+#[derive(Clone, Copy)]
+pub struct Passed {
+    pub halves: u16,
+    pub remaining: u16,
+    pub at_edge: bool,
+}
+
 impl Counter {
     ghost use Rattle.std.specs.Prelude.{◌≡◌};
-    ghost use Rattle.sci.specs.Private.Steps.{ticks_by, halves_by, left_by, edge_by};
+    ghost use Rattle.sci.specs.Private.Steps.{ticks_by, halves_by, left_by, last_is_tick, edge_by};
 
     // The ticks in n cycles. The dividers that SMR has stand by themselves: the compiler makes shifts of them.
     #[tactic(auto, using(crate::proofs::Count::ticks_few, crate::proofs::Count::ticks_one), unfolding(crate::specs::Count::ticks_in))]
@@ -33,39 +41,50 @@ impl Counter {
         }
     }
 
-    // The halves in n cycles.
-    #[tactic(auto, unfolding(crate::specs::Private::Steps::halves_by, crate::specs::Count::halves_in))]
-    pub fn halves(self, n: u16) -> u16
-        ensures value { result ≡ halves_by self n }
-        ensures few { result ≤ n }
+    // Whether the last of n cycles is a tick.
+    fn last_is_tick(self, n: u16) -> bool
+        ensures { result ≡ last_is_tick self n }
     {
-        let ticks = self.ticks(n) as u16;
-        if !self.runs | (ticks < self.remaining) {
-            return 0;
+        let total = self.total + u64::from(n);
+        match self.divider {
+            1 => true,
+            16 => total % 16 == 0,
+            64 => total % 64 == 0,
+            divider => total % divider == 0,
         }
-        (ticks - self.remaining) / self.reload + 1
     }
 
-    // The ticks to the next half after n cycles.
-    #[tactic(auto, using(crate::proofs::Count::rest_below), unfolding(crate::specs::Private::Steps::left_by, crate::specs::Count::left_in))]
-    pub fn left(self, n: u16) -> u16
-        ensures value { result ≡ left_by self n }
-        ensures within { (0 < result) × (result ≤ 256) }
+    // What n cycles make of the count, by one division of the ticks past the next half.
+    #[tactic(auto, using(crate::proofs::Count::rest_below, crate::proofs::Count::edge_last), unfolding(crate::specs::Private::Steps::halves_by, crate::specs::Private::Steps::left_by, crate::specs::Count::halves_in, crate::specs::Count::left_in))]
+    pub fn passed(self, n: u16) -> Passed
+        ensures halves { result.halves ≡ halves_by self n }
+        ensures few { result.halves ≤ n }
+        ensures remaining { result.remaining ≡ left_by self n }
+        ensures within { (0 < result.remaining) × (result.remaining ≤ 256) }
+        ensures at_edge { result.at_edge ≡ edge_by self n }
     {
+        let ticks = self.ticks(n) as u16;
         if !self.runs {
-            return self.remaining;
+            return Passed {
+                halves: 0,
+                remaining: self.remaining,
+                at_edge: n == 0,
+            };
         }
-        let ticks = self.ticks(n) as u16;
         if ticks < self.remaining {
-            return self.remaining - ticks;
+            return Passed {
+                halves: 0,
+                remaining: self.remaining - ticks,
+                at_edge: n == 0,
+            };
         }
-        self.reload - (ticks - self.remaining) % self.reload
-    }
-
-    // Whether the last of n cycles counts a half, or none passes.
-    pub fn at_edge(self, n: u16) -> bool
-        ensures { result ≡ edge_by self n }
-    {
-        n == 0 || self.halves(n - 1) < self.halves(n)
+        let past = ticks - self.remaining;
+        let rest = past % self.reload;
+        let tick = self.last_is_tick(n);
+        Passed {
+            halves: past / self.reload + 1,
+            remaining: self.reload - rest,
+            at_edge: tick & (rest == 0),
+        }
     }
 }

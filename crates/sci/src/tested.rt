@@ -52,14 +52,10 @@ impl Tested {
         ensures value { answered result self.new.sci ≡ called (Command.OnPort call) self.old.sci }
         ensures kept { OnErr result (self.new.sci ≡ self.old.sci) }
     {
-        let called = port::Tested {
-            port: self.sci.port,
-        }
-        .called(call)?;
-        let remaining = remaining_after(self.sci.port, self.sci.baud.remaining, call);
-        self.sci.port = called.port;
-        self.sci.baud.remaining = remaining;
-        Ok(called.value)
+        let before = self.sci.port;
+        let value = self.sci.port.call(call)?;
+        self.sci.baud.remaining = remaining_after(before, self.sci.baud.remaining, call);
+        Ok(value)
     }
 
     // Kinds 1, 4, 5 and 7, which leave them: a read in a script does not pay for what the others need.
@@ -70,12 +66,8 @@ impl Tested {
         ensures value { answered result self.new.sci ≡ called (Command.OnPort call) self.old.sci }
         ensures kept { OnErr result (self.new.sci ≡ self.old.sci) }
     {
-        let called = port::Tested {
-            port: self.sci.port,
-        }
-        .called(call)?;
-        self.sci.port = called.port;
-        Ok(called.value)
+        let value = self.sci.port.call(call)?;
+        Ok(value)
     }
 
     // n cycles of a clock pass: the port waits for the halves that they count.
@@ -91,17 +83,13 @@ impl Tested {
         if self.sci.baud.total(source) + u64::from(cycles) > MOST {
             return Err(Refusal::Total);
         }
-        let counter = self.sci.counter(source);
-        let halves = u32::from(counter.halves(cycles));
-        let mut port = port::Tested {
-            port: self.sci.port,
-        }
-        .called(Call::Wait { halves })?
-        .port;
-        port.edge &= counter.at_edge(cycles);
-        let mut baud = self.sci.baud.advanced(source, cycles);
-        baud.remaining = counter.left(cycles);
-        self.sci = Sci { port, baud };
+        let passed = self.sci.counter(source).passed(cycles);
+        self.sci.port.call(Call::Wait {
+            halves: u32::from(passed.halves),
+        })?;
+        self.sci.port.edge &= passed.at_edge;
+        self.sci.baud = self.sci.baud.advanced(source, cycles);
+        self.sci.baud.remaining = passed.remaining;
         Ok(0)
     }
 

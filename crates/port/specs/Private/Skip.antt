@@ -2,9 +2,9 @@
 -- nothing happens are skipped (sci.rs: `deadline` and `step_to`). No public contract cites this file; proofs/Skip.antt proves that it makes of a port what
 -- the halves of Half.antt make of it one by one.
 -- Assumes nothing.
-use Rattle.std.specs.Prelude.{◌≡◌, ℕ, zero, suc, ◌+◌, ◌%◌, Bool, true, false, cond, not, ◌&&◌, ◌==◌, Option, None, Some, is_none}
+use Rattle.std.specs.Prelude.{◌≡◌, ℕ, zero, suc, ◌+◌, ◌%◌, Bool, false, cond, not, ◌&&◌, ◌||◌, ◌==◌, Option, None, Some, is_none}
 use Rattle.frame.specs.Frame.{differ}
-use Rattle.shift.specs.Due.{due_now, within}
+use Rattle.shift.specs.Due.{within}
 use Rattle.shift.specs.Sender.{tx_next}
 use Rattle.shift.specs.Receiver.{rx_next}
 use Rattle.port.specs.declared.Port.{Port}
@@ -20,10 +20,6 @@ abbrev pub arms_on : Option Rx → Port → Bool
 arms_on None p = arms p
 arms_on (Some r) p = false
 
--- the basic work has nothing to do at this half
-unfoldable pub nothing_due : Port → Bool
-nothing_due p = not (due_now (tx_next p.tx) p.half) && (not (due_now (rx_next p.rx) p.half) && not (arms_on p.rx p))
-
 -- on the internal clock, the clock of clocked form is as `refresh_sync_clock` leaves it
 unfoldable pub clock_fresh : Port → Bool
 clock_fresh p = cond (sync_needed p) (not (is_none p.sync_next)) (is_none p.sync_next && p.sck)
@@ -36,9 +32,9 @@ deadline left p =
     (within p.sync_next p.half (within (rx_next p.rx) p.half (within (tx_next p.tx) p.half left)))
     1)
 
--- k halves counted at once, k not 0
+-- k halves counted at once
 unfoldable pub counted_by : ℕ → Port → Port
-counted_by k p = with_edge (with_high (with_half p (p.half + k)) (differ p.high (not (k % 2 == 0)))) true
+counted_by k p = with_edge (with_high (with_half p (p.half + k)) (differ p.high (not (k % 2 == 0)))) (not (k == 0) || p.edge)
 
 -- ---- an edge of the basic clock, counted: a half of the internal one, or an edge of the clock pin to a level, `pin`
 -- the port's own clock toggles; an edge of the pin leaves it as it is
@@ -59,6 +55,11 @@ edge_work pin p = refresh_sync_clock (edge_of pin (process_basic p))
 abbrev pub ClockGives : Option Bool → ℕ → Port → Type 0
 ClockGives None n p = external p ≡ false
 ClockGives (Some level) n p = n ≡ 1
+
+-- the first of n edges at which something may happen: that of the pin, or of n halves the one up to which `deadline` counts, which may be after them
+abbrev pub Planned : Option Bool → ℕ → ℕ → Port → Type 0
+Planned None n first p = first ≡ deadline (n + 1) p
+Planned (Some level) n first p = first ≡ 1
 
 abbrev pub edges : Option Bool → ℕ → Port → Port
 edges None n p = halves n p

@@ -1,41 +1,37 @@
-use Rattle.std.proofs.Common.{◌≤◌, refl, ◌∙◌, arith}
-use Rattle.port.proofs.Skip.{goes_in, deadline_bounds, counted_goes, goes_on, edges_on, edges_none}
+use Rattle.std.proofs.Common.{◌∙◌, refl, arith}
+use Rattle.port.proofs.Skip.{goes_in, planned_bounds, edges_end, counted_goes, goes_on, plan_on, edges_on}
 use Rattle.port.proofs.Port.edges.Goals as goal
 
--- an edge at least is taken, and no more than are left
-bounds : (c : goal.After-deadline-k) → (1 ≤ c.deadline-k.result) × (c.deadline-k.result ≤ c.loop-left.left)
-bounds c = deadline_bounds c.loop-left.port c.loop-left.left c.deadline-k.result (omega arith) c.deadline-k.ensures
-
-pub loop-left-init : goal.loop-left-init
-loop-left-init c = (refl, goes_in c.args.pin c.args.n c.args.self c.requires)
+pub loop-next-init : goal.loop-next-init
+loop-next-init c = (refl, goes_in c.args.pin c.args.n c.args.self.now (c.requires.0, c.requires.1, c.requires.2), c.requires.3)
 
 pub counted_by-requires : goal.counted_by-requires
-counted_by-requires c =
-    let b = bounds c in
-    omega (arith, b.1, c.loop-left.invariant.1.1)
+counted_by-requires c = omega (arith, c.loop-next-test.true, c.loop-next.invariant.1.1)
 
-pub advance-port-requires : goal.advance-port-requires
-advance-port-requires c =
-    let v = c.loop-left in
-    counted_goes c.args.pin v.port c.counted_by.result v.port v.left c.deadline-k.result (omega arith) v.invariant.1 c.deadline-k.ensures c.counted_by.ensures
+pub advance-requires : goal.advance-requires
+advance-requires c =
+    let v = c.loop-next in
+    counted_goes c.args.pin v.self v.left v.next v.invariant.1 v.invariant.2 c.loop-next-test.true c.counted_by.new.self c.counted_by.new.self c.counted_by.ensures
 
-pub overflow_sub-left : goal.overflow_sub-left
-overflow_sub-left c = (bounds c.before.before).1
+pub loop-next-smaller : goal.loop-next-smaller
+loop-next-smaller c =
+    let v = c.loop-next in
+    let b = planned_bounds c.args.pin v.self v.left v.next v.invariant.1 v.invariant.2 in
+    omega (arith, b.0, c.loop-next-test.true)
 
-pub loop-left-smaller : goal.loop-left-smaller
-loop-left-smaller c =
-    let b = bounds c.before.before in
-    omega (arith, b.0, b.1)
-
-pub loop-left-preserved : goal.loop-left-preserved
-loop-left-preserved c =
+pub loop-next-preserved : goal.loop-next-preserved
+loop-next-preserved c =
     let a = c.args in
-    let v = c.loop-left in
-    let k = c.deadline-k in
-    let q = c.counted_by in (
-      edges_on a.pin c.advance-port.result q.result v.port v.left k.result (omega arith) v.invariant.1 k.ensures q.ensures a.n a.self c.advance-port.ensures v.invariant.0,
-      goes_on a.pin c.advance-port.result q.result v.port v.left k.result (omega arith) v.invariant.1 k.ensures q.ensures c.advance-port.ensures,
+    let v = c.loop-next in
+    let q = c.counted_by in
+    let r = c.advance in (
+      edges_on a.pin v.self v.left v.next v.invariant.1 v.invariant.2 c.loop-next-test.true r.new.self q.new.self q.ensures a.n a.self.now r.ensures v.invariant.0,
+      goes_on a.pin v.self v.left v.next v.invariant.1 v.invariant.2 c.loop-next-test.true r.new.self q.new.self q.ensures r.ensures,
+      plan_on a.pin v.self v.left v.next v.invariant.1 v.invariant.2 c.loop-next-test.true r.new.self q.new.self q.ensures c.deadline-next.result c.deadline-next.ensures,
     )
 
 pub returns : goal.returns
-returns c = edges_none c.args.pin c.loop-left.left c.loop-left.port (omega arith) ∙ c.loop-left.invariant.0
+returns c =
+    let v = c.loop-next in
+    edges_end c.args.pin v.self v.left v.next v.invariant.1 v.invariant.2 c.counted_by-2.new.self (omega (arith, c.loop-next-test.false)) c.counted_by-2.ensures
+    ∙ v.invariant.0

@@ -1,11 +1,11 @@
 -- The edges that are left make of the port what all of them make of the first one.
 use Rattle.std.proofs.Common.{◌≡◌}
-use Rattle.port.specs.Private.Skip.{edges}
+use Rattle.port.specs.Private.Skip.{Planned, edges}
 use Rattle.port.proofs.Skip.{Goes}
 use Rattle.port.proofs.Port.edges.Given as goal
 
-abbrev pub invariant-loop-left : goal.invariant-loop-left
-invariant-loop-left l = (edges l.pin l.left l.port ≡ edges l.pin l.n l.fn.self) × Goes l.pin l.left l.port
+abbrev pub invariant-loop-next : goal.invariant-loop-next
+invariant-loop-next l = (edges l.pin l.left l.self ≡ edges l.pin l.n l.fn.self) × Goes l.pin l.left l.self × Planned l.pin l.left l.next l.self
 
-abbrev pub decreases-loop-left : goal.decreases-loop-left
-decreases-loop-left l = l.left
+abbrev pub decreases-loop-next : goal.decreases-loop-next
+decreases-loop-next l = l.left

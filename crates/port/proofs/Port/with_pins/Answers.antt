@@ -5,4 +5,4 @@ use Rattle.port.proofs.Port.with_pins.Goals as goal
 
 pub edges-requires : goal.edges-requires
 edges-requires c =
-    (search (receive_input_ready, ready_half, ready_tx, ready_rx, rules) depth 10, search (pins_room, rules) depth 10, refl)
+    (search (receive_input_ready, ready_half, ready_tx, ready_rx, rules) depth 10, search (pins_room, rules) depth 10, refl, refl)

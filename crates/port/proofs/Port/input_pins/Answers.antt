@@ -3,7 +3,7 @@ use Rattle.frame.proofs.Choose.{cond_t, flag_t}
 use Rattle.port.specs.Calls.{called}
 use Rattle.port.specs.Input.{input_pins}
 use Rattle.port.proofs.CallLaws.{pins_set}
-use Rattle.port.proofs.tested.Tested.input_pins.Goals as goal
+use Rattle.port.proofs.Port.input_pins.Goals as goal
 
 pub returns : goal.returns
 unfolding called input_pins
