@@ -170,7 +170,18 @@ def arguments(r, form):
         given[names[0]] = r.randrange(12)
     if form.startswith("read"):
         given["at"] = r.randrange(4)
+    if form in ("nearest_rate", "rate_line", "sci3_rate"):
+        given.update(a_rate(r))
+    if form == "rate":
+        given["clock_length"], given["rate_length"] = r.randrange(9), r.randrange(5)
     return tuple((name, given[name]) for name in names if given[name])
+
+
+def a_rate(r):
+    """A clock, a rate and a tolerance: often a rate that a setting gives, or one near it."""
+    rate = r.choice((1, 2, 3, 300, 1200, 9600, 115200, 1000000, r.randrange(1, 1000)))
+    clock = rate * r.choice((1, 16, 64)) * r.choice((16, 32)) * r.randrange(1, 257) + r.choice((0, 0, 1, -1, rate, 16 * rate))
+    return {"clock": r.choice((clock, clock, 64, 540672, r.randrange(20000002))), "rate": rate, "tolerance": r.choice((0, 1, 100, 9999, 10000, 10001))}
 
 
 class Inputs:
@@ -210,6 +221,8 @@ class Inputs:
     @staticmethod
     def of(r, form):
         script = broken(r, body(a_call(r) for _ in range(2))) if form.startswith("read") else b""
+        if form == "rate":
+            script = bytes(r.choice(b"0123456789999/:- ") for _ in range(r.randrange(16)))
         return Question(form, arguments(r, form), script)
 
     def shown(self, wrong):

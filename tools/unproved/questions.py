@@ -38,6 +38,7 @@ ARRAY = [*PLACES, "place 56"]  # of an array that is one number too long
 
 # Functions: the number that answers.rattle knows them by, arguments, results. A script's or a buffer's bytes come last.
 READ = ("fault", "value", "next")
+RATE = ("clock", "rate", "tolerance")
 FUNCTIONS = {
     "record_line": (5, ("kind", "answer", "ssr", "level", "interrupt"), "text"),
     "end_line": (6, ("length",), "text"),
@@ -83,6 +84,11 @@ FUNCTIONS = {
     # a direct call on a fresh port or state with these fields; 256 and the number where it is refused
     "Port::direct": (46, ("kind", "a", "b", "module", "main", "half"), ("answer", "half")),
     "Sci::direct": (47, ("kind", "a", "b", "module", "main", "half"), ("answer", "half", "remaining")),
+    "nearest_rate": (48, RATE, ("refusal", "select", "semr", "cell", "brr", "numerator", "denominator")),
+    "rate_line": (49, RATE, "text"),
+    # the three arguments' bytes one after the other, and how long the first two are
+    "rate": (50, ("clock_length", "rate_length"), "text"),
+    "sci3_rate": (51, RATE, ("answer", "SMR", "SEMR", "BRR", "numerator", "denominator")),
 }
 OPERANDS = {1: 1, 2: 2, 3: 1, 4: 1, 5: 2, 6: 1, 8: 1, 9: 1}
 LOG = 240

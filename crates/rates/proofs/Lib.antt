@@ -1,0 +1,4 @@
+pub mod Fractions
+pub mod Order
+pub mod Columns
+pub mod Nearest
