@@ -75,6 +75,11 @@ uint64_t sci3_interrupt(const uint64_t *state, size_t length);
 uint64_t sci3_play(uint64_t *state, size_t state_length, const uint8_t *script, size_t script_length, uint8_t *log,
                    size_t log_length, uint64_t told[3]);
 
+/* The setting whose bit rate is nearest to a wanted one: of a system clock in Hz, a rate in bits a second, and a tolerance
+ * in parts per ten thousand. 0, and told[0] are bits 0 and 1 of SMR, told[1] is SEMR, told[2] BRR, and the error is
+ * (int64_t)told[3] over told[4], not reduced; or the number of the refusal, 11 or 12, and told are zeros. */
+uint64_t sci3_rate(uint64_t clock, uint64_t rate, uint64_t tolerance, uint64_t told[5]);
+
 #ifdef __cplusplus
 }
 #endif

@@ -1,4 +1,4 @@
-/* The proved port from C: a word put on the receive line by direct calls, a call that is refused, and a script.
+/* The proved port from C: a word put on the receive line by direct calls, a call that is refused, a script, and a bit rate.
  * docs/C.md says how to build it; what it prints is in port.out. */
 #include "sci3.h"
 
@@ -53,5 +53,10 @@ int main(void) {
     }
     printf("script: number %u at %u, length %llu, half %u\n", (unsigned)number, (unsigned)told[0],
            (unsigned long long)told[2], (unsigned)state[SCI3_HALF]);
+
+    uint64_t setting[5];
+    number = sci3_rate(10000000, 9600, 100, setting);
+    printf("rate: number %u, SMR %02X, SEMR %02X, BRR %02X, error %lld/%llu\n", (unsigned)number, (unsigned)setting[0],
+           (unsigned)setting[1], (unsigned)setting[2], (long long)(int64_t)setting[3], (unsigned long long)setting[4]);
     return 0;
 }

@@ -1,4 +1,4 @@
-//! The proved port from Rust: a word put on the receive line by direct calls, a call that is refused, and a script.
+//! The proved port from Rust: a word put on the receive line by direct calls, a call that is refused, a script, and a bit rate.
 //! docs/C.md says how to build it; what it prints is in port.out.
 //!
 //! `Port` owns the array and lends it for one call at a time, so nothing outside `mod sci3` can break the caller's duties.
@@ -8,7 +8,7 @@ mod sci3 {
     pub const RECORD: usize = 5;
     const REFUSED: u64 = 256;
 
-    // A lent slice is its address and its length; `told` is always three numbers.
+    // A lent slice is its address and its length; `told` is three numbers, and five of `sci3_rate`.
     unsafe extern "C" {
         fn sci3_fresh(state: *mut u64, length: usize) -> u64;
         fn sci3_call(state: *mut u64, length: usize, kind: u32, a: u32, b: u32) -> u64;
@@ -23,6 +23,29 @@ mod sci3 {
             log_length: usize,
             told: *mut u64,
         ) -> u64;
+        fn sci3_rate(clock: u64, rate: u64, tolerance: u64, told: *mut u64) -> u64;
+    }
+
+    pub struct Setting {
+        pub smr: u8,
+        pub semr: u8,
+        pub brr: u8,
+        /// Numerator and denominator, not reduced.
+        pub error: (i64, u64),
+    }
+
+    /// Of a clock in Hz, a rate in bits a second and a tolerance in parts per ten thousand; or the number of the refusal.
+    pub fn nearest_rate(clock: u64, rate: u64, tolerance: u64) -> Result<Setting, u64> {
+        let mut told = [0; 5];
+        match unsafe { sci3_rate(clock, rate, tolerance, told.as_mut_ptr()) } {
+            0 => Ok(Setting {
+                smr: told[0] as u8,
+                semr: told[1] as u8,
+                brr: told[2] as u8,
+                error: (told[3] as i64, told[4]),
+            }),
+            number => Err(number),
+        }
     }
 
     pub struct Port([u64; STATE]);
@@ -131,4 +154,11 @@ fn main() {
         println!("{}", bytes.join(" "));
     }
     println!("script: number {} at {}, length {}, half {}", played.number, played.offset, played.length, port.half());
+
+    match sci3::nearest_rate(10_000_000, 9_600, 100) {
+        Ok(sci3::Setting { smr, semr, brr, error }) => {
+            println!("rate: number 0, SMR {smr:02X}, SEMR {semr:02X}, BRR {brr:02X}, error {}/{}", error.0, error.1)
+        }
+        Err(number) => println!("rate: number {number}"),
+    }
 }

@@ -1,7 +1,8 @@
 -- What each exported function answers, and what it leaves in the lent array.
--- Of all but sci3_play: an answer below 256 is that of an accepted call; 256 and document 01's number is a refusal, and the array is then as it was.
+-- Of all but sci3_play and sci3_rate: an answer below 256 is that of an accepted call; 256 and document 01's number is a refusal, and the array is then as it was.
 -- Assumes nothing.
 use Rattle.std.specs.Prelude.{ℕ, ◌+◌, ◌*◌, cond, ◌&&◌, List, [], ◌∷◌, eqb, leb, length, Option, None, Some}
+use Rattle.std.specs.Int.{w64, cast_unsigned}
 use Rattle.frame.specs.Frame.{one_if}
 use Rattle.pins.specs.declared.Drive.{Drive}
 use Rattle.pins.specs.declared.Drive.TheVariants.{Floating, Low, High}
@@ -12,6 +13,7 @@ use Rattle.sci.specs.declared.Sci.{Sci}
 use Rattle.sci.specs.Calls.{Answer, done, refused, fresh, valid, direct}
 use Rattle.machine.specs.Machine.{Run}
 use Rattle.player.specs.Play.{Progress, play}
+use Rattle.rates.specs.Rates.{code, semr, Answer as RateAnswer, found, refused as rate_refused, nearest_rate}
 use Rattle.capi.specs.State.{decode, encode, state_max}
 
 -- an answer, and the array after it
@@ -97,3 +99,19 @@ play_on s script log (Some p) = run_left s (play p script log)
 
 unfoldable pub played : List ℕ → List ℕ → List ℕ → Playing
 played s script log = play_on s script log (decode s)
+
+-- ---- sci3_rate
+-- 0, and told are the bits of SMR, SEMR, BRR, and the error, numerator modulo 2 to the 64th and denominator; or document 02's number, and told are zeros
+pub record Rating : Type 0 where
+  pub number : ℕ
+  pub told : List ℕ
+
+abbrev pub rating : ℕ → List ℕ → Rating
+rating n t = record { number = n; told = t }
+
+abbrev pub rate_told : RateAnswer → Rating
+rate_told (found s n d) = rating 0 (code s.select ∷ semr s.short_cell ∷ s.brr ∷ cast_unsigned w64 n ∷ d ∷ [])
+rate_told (rate_refused n) = rating n (0 ∷ 0 ∷ 0 ∷ 0 ∷ 0 ∷ [])
+
+unfoldable pub rated : ℕ → ℕ → ℕ → Rating
+rated clock rate tolerance = rate_told (nearest_rate clock rate tolerance)

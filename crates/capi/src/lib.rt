@@ -1,9 +1,9 @@
-// SCI3 for programs in other languages: the state of a port and its clock in a lent array of numbers, the direct calls on it, and the player of scripts. Rattle crates call
+// SCI3 for programs in other languages: the state of a port and its clock in a lent array of numbers, the direct calls on it, the player of scripts, and the nearest bit rate. Rattle crates call
 // these functions, and so does crate capi_c, the static library by which C calls them.
 #![tactic(auto)]
 
 ghost use Rattle.std.specs.Prelude.{◌≡◌, true, cond, ◌+◌, ◌≤◌, ◌++◌, eqb, length, take, OnSome};
-ghost use Rattle.capi.specs.Exports.{lent, call_left, call, pins_number, pins_answer, interrupt_answer, fresh_state, playing, played};
+ghost use Rattle.capi.specs.Exports.{lent, call_left, call, pins_number, pins_answer, interrupt_answer, fresh_state, playing, played, rating, rated};
 ghost use Rattle.capi.specs.State.{tag, number_list, format_list, tx_tag, tx_character, tx_cell, tx_loaded, tx_list, position_number, rx_list, register_list, power_list, line_list, port_list, baud_list, encode, format_max, character_max, tx_max, word_max, rx_max, port_max, baud_max, state_max, fits, number_in, format_in, character_in, tx_of, tx_in, position_of, word_in, rx_in, port_of, port_in, baud_in, sci_in, decode};
 ghost use Rattle.player.specs.Play.{end_number};
 ghost use Rattle.sci.specs.Calls.{answered};
@@ -651,4 +651,29 @@ pub fn sci3_play(state: &mut [u64], script: &[u8], log: &mut [u8], told: &mut [u
         run.length,
     ];
     u64::from(player::end_number(run.end))
+}
+
+// The setting whose bit rate is nearest to a wanted one: of a clock in Hz, a rate in bits a second and a tolerance in parts per ten thousand. The answer is
+// document 02's number, 0 where there is one; told are then its bits of SMR, SEMR, BRR, and its error as numerator and denominator, the numerator's 64 bits as
+// those of a number without a sign. After a refusal told are zeros.
+#[tactic(auto, unfolding(crate::specs::Exports::rated))]
+pub fn sci3_rate(clock: u64, rate: u64, tolerance: u64, told: &mut [u64; 5]) -> u64
+    ensures { rating result told.new ≡ rated clock rate tolerance }
+{
+    match rates::nearest_rate(clock, rate, tolerance) {
+        Ok(found) => {
+            *told = [
+                u64::from(u8::from(found.setting.select)),
+                u64::from(found.setting.semr()),
+                u64::from(found.setting.brr),
+                found.error.numerator.cast_unsigned(),
+                found.error.denominator,
+            ];
+            0
+        }
+        Err(refusal) => {
+            *told = [0, 0, 0, 0, 0];
+            u64::from(u8::from(refusal))
+        }
+    }
 }

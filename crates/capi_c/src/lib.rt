@@ -3,7 +3,7 @@
 #![tactic(auto)]
 
 ghost use Rattle.std.specs.Prelude.{◌≡◌};
-ghost use Rattle.capi.specs.Exports.{lent, call, pins_answer, interrupt_answer, fresh_state, playing, played};
+ghost use Rattle.capi.specs.Exports.{lent, call, pins_answer, interrupt_answer, fresh_state, playing, played, rating, rated};
 
 // Makes the direct call of a kind on the port in the array.
 #[unsafe(no_mangle)]
@@ -49,4 +49,13 @@ pub extern "C" fn sci3_play(
     ensures { playing result told.new state.new log.new ≡ played state.old script.now log.old }
 {
     capi::sci3_play(state, script, log, told)
+}
+
+// The setting whose bit rate is nearest to a wanted one: of a clock in Hz, a rate in bits a second and a tolerance in parts per ten thousand. The answer is
+// document 02's number, 0 where there is one; told are then its bits of SMR, SEMR, BRR, and its error, else zeros.
+#[unsafe(no_mangle)]
+pub extern "C" fn sci3_rate(clock: u64, rate: u64, tolerance: u64, told: &mut [u64; 5]) -> u64
+    ensures { rating result told.new ≡ rated clock rate tolerance }
+{
+    capi::sci3_rate(clock, rate, tolerance, told)
 }
