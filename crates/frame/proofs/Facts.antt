@@ -6,25 +6,20 @@ use Prim.Native.Nat.{ℕ, suc, ◌+◌, ◌*◌, ◌/◌, ◌%◌, ◌^◌, ◌<
 use native.Mathlib.Nat.{mod-lt, lt_of_lt_of_le}
 use mathlib.Core.Bool.{Bool, true, false, cond, not, ◌&&◌, ◌||◌, beq}
 use mathlib.Core.List.{List}
-use lib.Count.{ones}
+use lib.Count.{ones as count_ones}
 use lib.Dec.{eqb, ltb, lit<}
 use lib.ListN.{length}
 use lib.Pow.{pow_pos, pow_mono}
 use borrow.Author.Tests.{eqb-true, eq-eqb, ltb-true}
 use Rattle.frame.specs.declared.Format.{Format}
-use Rattle.frame.specs.Frame.{bits, frame, format, word, stop, one_if, differ, odd_ones, format_valid, data_of, word_valid}
+use Rattle.frame.specs.Frame.{bits, frame, format, word, stop, one_if, parity_bit, format_valid, data_of, word_valid}
 use Rattle.frame.specs.Cells.{start_stop, bit, parity_of, level, Levels, Word, FrameFacts}
 use Rattle.frame.specs.Valid.{ValidFormats, ValidWords}
 use Rattle.frame.proofs.Truth.{and_left, and_right, beq_true, by_flag, Test, Always, every_row, by_table}
-use Rattle.frame.proofs.Laws.{one_if_bit, odd_add}
-use Rattle.frame.proofs.Words.{bits_length, bits_at, number_lt, number_at, number_bits, odd_ones_count, cells_length, data_cell, parity_at, stop_at, word_plain, word_clocked, word_data, word_again, same_format, Parts, parts, shape, format_good}
+use Rattle.frame.proofs.Laws.{one_if_bit}
+use Rattle.frame.proofs.Words.{bits_length, bits_at, number_lt, number_at, number_bits, ones_bits, cells_length, data_cell, parity_at, stop_at, word_plain, word_clocked, word_data, word_again, same_format, Parts, parts, shape, format_good}
 
 -- ---- the cells of a frame
-
--- a flag is the parity of its number
-flag_odd : (b : Bool) → eqb (one_if b % 2) 1 ≡ b
-flag_odd true = refl
-flag_odd false = refl
 
 module _ (f : Format) (v : ℕ) where
   levels : Levels f v
@@ -44,11 +39,8 @@ module _ (f : Format) (v : ℕ) where
       full : length bs ≡ f.«data»
       full = bits_length f.«data» v
 
-      counted : differ (odd_ones bs) f.odd ≡ eqb (parity_of f.«data» f.odd v) 1
-      counted =
-          ap (λ (b : Bool). differ b f.odd) (odd_ones_count f.«data» v)
-          ∙ ap (differ (eqb (ones (v % 2 ^ f.«data») % 2) 1)) (sym (flag_odd f.odd))
-          ∙ sym (odd_add (ones (v % 2 ^ f.«data»)) (one_if f.odd))
+      counted : eqb (parity_bit f bs) 1 ≡ eqb (parity_of f.«data» f.odd v) 1
+      counted = ap (λ (n : ℕ). eqb ((n + one_if f.odd) % 2) 1) (ones_bits f.«data» v)
 
   -- each bit of the word is the level of its cell
   word_is : f.synchronous ≡ false → Word f v
@@ -57,7 +49,7 @@ module _ (f : Format) (v : ℕ) where
       record {
         start = cell 0;
         low_first = λ i h. cell (suc i) ∙ ap one_if (levels.low_first i h) ∙ one_if_bit (v / 2 ^ i);
-        parity = λ p. cell (suc f.«data») ∙ ap one_if (levels.parity p) ∙ one_if_bit (ones (v % 2 ^ f.«data») + one_if f.odd);
+        parity = λ p. cell (suc f.«data») ∙ ap one_if (levels.parity p) ∙ one_if_bit (count_ones (v % 2 ^ f.«data») + one_if f.odd);
         stops = λ i h. cell (stop f + i) ∙ ap one_if (levels.stops i h);
         no_more = rw (word_plain f v c, ← levels.no_more) (number_lt (frame f (bits f.«data» v)));
         reads_back = word_data f v c ∙ number_bits f.«data» v;

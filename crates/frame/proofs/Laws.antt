@@ -8,11 +8,11 @@ use native.Mathlib.Nat.{mod-lt}
 use native.Mathlib.Omega.{arith}
 use lib.Dec.{eqb, lit≤, lit<}
 use lib.Pow.{shl_exact, field, mod-mod-pow}
-use lib.Bits.{bit_and, bit_or, or_shifted_r, and_mask}
-use lib.Count.{ones, ones_step}
+use lib.Bits.{bit_and, bit_or, or_shifted_r}
+use lib.Count.{ones as count_ones, ones_step}
 use borrow.Author.Tests.{eqb-true, eq-eqb, not-true, not-false}
 use Rattle.std.specs.Int.{from_bool}
-use Rattle.frame.specs.Frame.{has, differ, one_if}
+use Rattle.frame.specs.Frame.{has, one_if}
 
 -- no bit of the mask is set
 pub clear_of : (x m : ℕ) → has x m ≡ false → bit_and x m ≡ 0
@@ -53,26 +53,8 @@ one_if_bit n = go (two n)
     go (inl e) = rw e
     go (inr e) = rw e
 
--- the code's test of a low bit
-pub has_one : (n : ℕ) → has n 1 ≡ eqb (n % 2) 1
-has_one n = ap (λ (x : ℕ). not (eqb x 0)) (and_mask n 1) ∙ go (two n)
-  where
-    go : ((n % 2 ≡ 0) ⊎ (n % 2 ≡ 1)) → not (eqb (n % 2) 0) ≡ eqb (n % 2) 1
-    go (inl e) = rw e
-    go (inr e) = rw e
-
--- a sum is odd if exactly one of its parts is
-pub odd_add : (x y : ℕ) → eqb ((x + y) % 2) 1 ≡ differ (eqb (x % 2) 1) (eqb (y % 2) 1)
-odd_add x y = go (two x) (two y)
-  where
-    go : ((x % 2 ≡ 0) ⊎ (x % 2 ≡ 1)) → ((y % 2 ≡ 0) ⊎ (y % 2 ≡ 1)) → eqb ((x + y) % 2) 1 ≡ differ (eqb (x % 2) 1) (eqb (y % 2) 1)
-    go (inl p) (inl q) = let e : (x + y) % 2 ≡ 0 = omega arith in rw (e, p, q)
-    go (inl p) (inr q) = let e : (x + y) % 2 ≡ 1 = omega arith in rw (e, p, q)
-    go (inr p) (inl q) = let e : (x + y) % 2 ≡ 1 = omega arith in rw (e, p, q)
-    go (inr p) (inr q) = let e : (x + y) % 2 ≡ 0 = omega arith in rw (e, p, q)
-
 -- the ones among the low bits: the lowest, and those of the rest
-pub ones_low : (d v : ℕ) → ones (v % 2 ^ suc d) ≡ v % 2 + ones (v / 2 % 2 ^ d)
+pub ones_low : (d v : ℕ) → count_ones (v % 2 ^ suc d) ≡ v % 2 + count_ones (v / 2 % 2 ^ d)
 ones_low d v =
     let e : v % 2 ^ (d + 1) % 2 ≡ v % 2 = mod-mod-pow v d 1 in
     let g : v % 2 ^ (d + 1) / 2 ≡ v / 2 % 2 ^ d = field v d 1 in

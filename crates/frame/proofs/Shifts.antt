@@ -4,17 +4,16 @@ use mathlib.Core.Path.{◌≡◌, sym, ap, ap₂, ◌∙◌}
 use Prim.Native.Nat.{ℕ, ◌+◌, ◌-◌, ◌*◌, ◌/◌, ◌%◌, ◌^◌, ◌≤◌, ◌<◌}
 use native.Mathlib.Omega.{arith}
 use native.Mathlib.Nat.{mod-lt, lt_of_lt_of_le}
-use mathlib.Core.Bool.{Bool, true, false, cond, ◌&&◌}
-use lib.Dec.{lit<}
+use mathlib.Core.Bool.{Bool, true, false, cond}
 use lib.Arith.{digits_lt}
 use lib.Pow.{pow_pos, pow_mono, pow-add, ones_lt, shl_exact, shl_lt}
 use lib.Bits.{bit_and, bit_or, and_mask}
-use lib.Count.{ones}
+use lib.Count.{ones as count_ones}
 use Rattle.frame.specs.declared.Format.{Format}
-use Rattle.frame.specs.Frame.{has, differ, one_if, bits, odd_ones, stop, word, format_valid, data_of}
+use Rattle.frame.specs.Frame.{one_if, bits, ones, stop, word, format_valid, data_of}
 use Rattle.frame.proofs.Truth.{by_flag}
-use Rattle.frame.proofs.Laws.{has_one, stacked}
-use Rattle.frame.proofs.Words.{odd_ones_count, parity_bit, word_sum, word_clocked, Shape, shape}
+use Rattle.frame.proofs.Laws.{stacked}
+use Rattle.frame.proofs.Words.{ones_bits, parity_cell_of, word_sum, word_clocked, Shape, shape}
 
 -- the bounds that the code's shifts need
 pub data_fits : (f : Format) → format_valid f ≡ true → f.«data» ≤ 8
@@ -24,37 +23,32 @@ pub stops_fit : (f : Format) → format_valid f ≡ true → f.stops ≤ 2
 stops_fit f ok = (shape f ok).two
 
 -- the shifts and masks of the code make the sum, with the numbers that its calls give
-module _ (f : Format) (v M S p s : ℕ) (ok : format_valid f ≡ true) (plain : f.synchronous ≡ false)
-    (eM : M ≡ 2 ^ f.«data» - 1) (eS : S ≡ 2 ^ f.stops - 1) (es : s ≡ stop f)
-    (ep : p ≡ one_if (f.parity && differ (has (ones (bit_and v M)) 1) f.odd)) where
+module _ (f : Format) (v M S s p o : ℕ) (ok : format_valid f ≡ true) (plain : f.synchronous ≡ false)
+    (eM : M ≡ 2 ^ f.«data» - 1) (eS : S ≡ 2 ^ f.stops - 1) (es : s ≡ stop f) (ep : p ≡ one_if f.parity) (eo : o ≡ one_if f.odd) where
   masked : bit_and v M ≡ v % 2 ^ f.«data»
   masked = ap (bit_and v) eM ∙ and_mask v f.«data»
 
-  made_bit : p ≡ parity_bit f v
-  made_bit =
-      ep
-      ∙ ap (λ (b : Bool). one_if (f.parity && differ b f.odd))
-      (ap (λ (x : ℕ). has (ones x) 1) masked ∙ has_one (ones (v % 2 ^ f.«data»)) ∙ sym (odd_ones_count f.«data» v))
+  made_cell : p * ((count_ones (bit_and v M) + o) % 2) ≡ parity_cell_of f v
+  made_cell = rw (ep, eo, masked, ones_bits f.«data» v)
 
-  -- the parity bit takes room only where the format has it
-  bit_room : (a b : Bool) → one_if (a && b) < 2 ^ one_if a
-  bit_room true true = lit< tt
-  bit_room true false = lit< tt
-  bit_room false b = lit< tt
+  -- the parity cell takes room only where the format has it
+  cell_room : (b : Bool) (n : ℕ) → one_if b * (n % 2) < 2 ^ one_if b
+  cell_room true n = omega arith
+  cell_room false n = omega arith
 
-  pub word_made : bit_or (bit_or ((bit_and v M * 2) % 65536) ((p * 2 ^ (f.«data» + 1)) % 65536)) ((S * 2 ^ s) % 65536) ≡ word f v
+  pub word_made : bit_or (bit_or ((bit_and v M * 2) % 65536) ((p * ((count_ones (bit_and v M) + o) % 2) * 2 ^ (f.«data» + 1)) % 65536)) ((S * 2 ^ s) % 65536) ≡ word f v
   word_made =
       let sh : Shape f = shape f ok in
       let x : ℕ = v % 2 ^ f.«data» in
-      let q : ℕ = parity_bit f v in
+      let q : ℕ = parity_cell_of f v in
       let x< : x < 2 ^ f.«data» = mod-lt v (pow_pos f.«data») in
       let x2< : x * 2 < 2 ^ (f.«data» + 1) = shl_lt f.«data» 1 x< in
-      let q< : q < 2 ^ one_if f.parity = bit_room f.parity (differ (odd_ones (bits f.«data» v)) f.odd) in
+      let q< : q < 2 ^ one_if f.parity = cell_room f.parity (ones (bits f.«data» v) + one_if f.odd) in
       let k≤1 : one_if f.parity ≤ 1 = by_flag (λ (b : Bool). one_if b ≤ 1) (omega arith) (omega arith) f.parity in
       let e : stop f ≡ one_if f.parity + (f.«data» + 1) = omega arith in
       let y< : q * 2 ^ (f.«data» + 1) + x * 2 < 2 ^ stop f = rw (e, pow-add 2 (one_if f.parity) (f.«data» + 1)) (digits_lt q< x2<) in
       let S< : 2 ^ f.stops - 1 < 2 ^ 2 = lt_of_lt_of_le (ones_lt f.stops) (pow_mono sh.two) in
-      ap₂ (λ (a b : ℕ). bit_or (bit_or ((a * 2) % 65536) ((b * 2 ^ (f.«data» + 1)) % 65536)) ((S * 2 ^ s) % 65536)) masked made_bit
+      ap₂ (λ (a b : ℕ). bit_or (bit_or ((a * 2) % 65536) ((b * 2 ^ (f.«data» + 1)) % 65536)) ((S * 2 ^ s) % 65536)) masked made_cell
       ∙ ap (λ (a : ℕ). bit_or (bit_or a ((q * 2 ^ (f.«data» + 1)) % 65536)) ((S * 2 ^ s) % 65536)) (shl_exact f.«data» 1 16 x< (omega (arith, sh.wide)))
       ∙ ap (λ (a : ℕ). bit_or a ((S * 2 ^ s) % 65536)) (stacked (one_if f.parity) (f.«data» + 1) q (x * 2) q< x2< (omega (arith, sh.wide)))
       ∙ ap₂ (λ (a b : ℕ). bit_or (q * 2 ^ (f.«data» + 1) + x * 2) ((a * 2 ^ b) % 65536)) eS es

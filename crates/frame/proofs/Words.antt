@@ -12,12 +12,12 @@ use lib.ListN.{length, get_or, replicate, length-append, length-replicate, get_o
 use lib.Arith.{digits_mod}
 use lib.Pow.{pow_pos, pow-add, shr-shr, mod-pow-add}
 use lib.Seq.{get_or-append-add}
-use lib.Count.{ones}
+use lib.Count.{ones as count_ones}
 use borrow.Author.Tests.{eqb-true}
 use Rattle.frame.specs.declared.Format.{Format}
-use Rattle.frame.specs.Frame.{has, differ, one_if, bits, number, odd_ones, format, stop, cells, parity_cell, frame, word, format_valid, data_of}
+use Rattle.frame.specs.Frame.{has, one_if, bits, number, ones, format, stop, cells, parity_bit, parity_cell, frame, word, format_valid, data_of}
 use Rattle.frame.proofs.Truth.{and_left, and_right, or_cases, every_row, by_table}
-use Rattle.frame.proofs.Laws.{one_if_bit, odd_add, ones_low}
+use Rattle.frame.proofs.Laws.{one_if_bit, ones_low}
 
 -- ---- bits and numbers
 
@@ -93,14 +93,11 @@ pub bits_again : (d v : ℕ) → bits d (number (bits d v)) ≡ bits d v
 bits_again d v =
     ap₂ bits (sym (bits_length d v)) (ap number (sym (append-nil (bits d v)))) ∙ bits_number (bits d v) []
 
--- the parity of a value's data bits, by the count of ones
-pub odd_ones_count : (d v : ℕ) → odd_ones (bits d v) ≡ eqb (ones (v % 2 ^ d) % 2) 1
-unfolding bits odd_ones ones
-odd_ones_count zero v = rw (mod-one v)
-odd_ones_count (suc d) v =
-    ap (differ (eqb (v % 2) 1)) (odd_ones_count d (v / 2))
-    ∙ ap (λ (x : ℕ). differ (eqb x 1) (eqb (ones (v / 2 % 2 ^ d) % 2) 1)) (sym (mod-mod v 2))
-    ∙ sym (odd_add (v % 2) (ones (v / 2 % 2 ^ d))) ∙ ap (λ (x : ℕ). eqb (x % 2) 1) (sym (ones_low d v))
+-- the ones among a value's data bits are those of its number
+pub ones_bits : (d v : ℕ) → ones (bits d v) ≡ count_ones (v % 2 ^ d)
+unfolding bits ones count_ones
+ones_bits zero v = rw (mod-one v)
+ones_bits (suc d) v = rw (one_if_bit v, ones_bits d (v / 2)) (sym (ones_low d v))
 
 -- ---- the cells of a frame
 
@@ -108,19 +105,18 @@ pub parity_length : (f : Format) (bs : List Bool) → length (parity_cell f bs) 
 unfolding parity_cell
 parity_length f bs = go f.parity
   where
-    go : (p : Bool) → length (cond p (differ (odd_ones bs) f.odd ∷ []) []) ≡ one_if p
+    go : (p : Bool) → length (cond p (eqb (parity_bit f bs) 1 ∷ []) []) ≡ one_if p
     go true = refl
     go false = refl
 
--- as a number it is 1 only where the format has it
-pub parity_number : (f : Format) (bs : List Bool) → number (parity_cell f bs) ≡ one_if (f.parity && differ (odd_ones bs) f.odd)
+-- as a number it is the parity bit, 0 where the format has none
+pub parity_number : (f : Format) (bs : List Bool) → number (parity_cell f bs) ≡ one_if f.parity * parity_bit f bs
 unfolding parity_cell number
-parity_number f bs = go f.parity (differ (odd_ones bs) f.odd)
+parity_number f bs = go f.parity
   where
-    go : (p b : Bool) → number (cond p (b ∷ []) []) ≡ one_if (p && b)
-    go true true = refl
-    go true false = refl
-    go false b = refl
+    go : (p : Bool) → number (cond p (eqb (parity_bit f bs) 1 ∷ []) []) ≡ one_if p * parity_bit f bs
+    go true = rw (one_if_bit (ones bs + one_if f.odd)) (omega arith)
+    go false = omega arith
 
 pub front_length : (f : Format) (bs : List Bool) → length bs ≡ f.«data» → length (false ∷ (bs ++ parity_cell f bs)) ≡ stop f
 front_length f bs e = rw (length-append, parity_length f bs, e)
@@ -141,11 +137,11 @@ module _ (f : Format) (bs : List Bool) (full : length bs ≡ f.«data») where
       rw (append_assoc bs (parity_cell f bs) (replicate f.stops true))
       (get_or-append bs (parity_cell f bs ++ replicate f.stops true) false j (omega (arith, full)))
 
-  pub parity_at : f.parity ≡ true → get_or (frame f bs) (suc f.«data») false ≡ differ (odd_ones bs) f.odd
+  pub parity_at : f.parity ≡ true → get_or (frame f bs) (suc f.«data») false ≡ eqb (parity_bit f bs) 1
   unfolding frame parity_cell
   parity_at p =
       let e : f.«data» ≡ length bs + 0 = omega (arith, full) in
-      let cell : List Bool = differ (odd_ones bs) f.odd ∷ [] in
+      let cell : List Bool = eqb (parity_bit f bs) 1 ∷ [] in
       let ends : List Bool = replicate f.stops true in
       rw (p, append_assoc bs cell ends, e, get_or-append-add bs (cell ++ ends) 0 false)
 
@@ -199,13 +195,13 @@ word_again f v = go f.synchronous refl
         ∙ ap (λ (x : ℕ). number (frame f (bits f.«data» x))) (word_data f v e)
         ∙ ap (λ (bs : List Bool). number (frame f bs)) (bits_again f.«data» v) ∙ sym (word_plain f v e)
 
--- the parity cell's bit of a value, 0 where the format has none
-abbrev pub parity_bit : Format → ℕ → ℕ
-parity_bit f v = one_if (f.parity && differ (odd_ones (bits f.«data» v)) f.odd)
+-- a value's parity cell as a number, 0 where the format has none
+abbrev pub parity_cell_of : Format → ℕ → ℕ
+parity_cell_of f v = one_if f.parity * parity_bit f (bits f.«data» v)
 
 -- a start-stop word as a sum: its stop cells, its parity cell, its data cells
 pub word_sum : (f : Format) (v : ℕ) → f.synchronous ≡ false
-    → word f v ≡ (2 ^ f.stops - 1) * 2 ^ stop f + (parity_bit f v * 2 ^ (f.«data» + 1) + v % 2 ^ f.«data» * 2)
+    → word f v ≡ (2 ^ f.stops - 1) * 2 ^ stop f + (parity_cell_of f v * 2 ^ (f.«data» + 1) + v % 2 ^ f.«data» * 2)
 unfolding frame number
 word_sum f v c =
     let bs : List Bool = bits f.«data» v in
@@ -213,7 +209,7 @@ word_sum f v c =
     word_plain f v c
     ∙ number_append (false ∷ (bs ++ parity_cell f bs)) (replicate f.stops true)
     ∙ rw (number_ones f.stops, front_length f bs (bits_length f.«data» v), number_append bs (parity_cell f bs), parity_number f bs)
-    (rw (bits_length f.«data» v, number_bits f.«data» v, up) (omega (arith, mul_assoc (parity_bit f v) (2 ^ f.«data») 2)))
+    (rw (bits_length f.«data» v, number_bits f.«data» v, up) (omega (arith, mul_assoc (parity_cell_of f v) (2 ^ f.«data») 2)))
 
 -- ---- formats
 

@@ -3,7 +3,7 @@
 use Rattle.std.specs.Prelude.{ℕ, zero, suc, ◌<◌, ◌≡◌, refl, Bool, true, false, ◌&&◌, List, [], ◌∷◌, eqb, length, get_or}
 use Rattle.std.proofs.lemmas.Bool.{false≢true}
 use Rattle.std.proofs.Common.{le_of_suc-le-suc, not-suc-le-zero, eqb-true}
-use Rattle.frame.specs.Frame.{format, word, frame, parity_cell, bits, number, odd_ones}
+use Rattle.frame.specs.Frame.{format, word, frame, parity_cell, bits, number, ones}
 
 -- SMR, a value, and the word that it has with SEMR 0
 pub record Case : Type 0 where
@@ -42,5 +42,5 @@ at d (k ∷ ks) t (suc i) h = at d ks (both (right k) (every ks) t).1 i (le_of_s
 
 -- every row holds: the test over the table is computed
 pub each_case : (i : ℕ) → i < length cases → word (format (case i).smr 0) (case i).value ≡ (case i).gives
-unfolding right every format word frame parity_cell bits number odd_ones
+unfolding right every format word frame parity_cell bits number ones
 each_case i h = eqb-true _ _ (at (row 0 0 0) cases refl i h)

@@ -1,8 +1,7 @@
 -- What the cells of a start-stop frame are (document 01, section "Frame"), with the data bits, the parity, the odd flag and the stops as parameters:
 -- any numbers and flags, whether registers give them or not. Proved in proofs/Facts.antt, as `frame_facts`.
 -- Assumes nothing.
-use Rattle.std.specs.Prelude.{ℕ, suc, ◌+◌, ◌/◌, ◌%◌, ◌^◌, ◌<◌, ◌≡◌, Bool, true, false, eqb, length, get_or}
-use Rattle.std.specs.Int.Count.{ones}
+use Rattle.std.specs.Prelude.{ℕ, suc, ◌+◌, ◌/◌, ◌%◌, ◌^◌, ◌<◌, ◌≡◌, Bool, true, false, eqb, length, get_or, count_ones}
 use Rattle.frame.specs.declared.Format.{Format}
 use Rattle.frame.specs.Frame.{bits, frame, word, stop, cells, one_if}
 
@@ -15,9 +14,9 @@ start_stop d parity odd stops half =
 abbrev pub bit : ℕ → ℕ → ℕ
 bit x i = x / 2 ^ i % 2
 
--- what a parity cell holds for the value v: the ones among its d data bits, and the odd flag, modulo two
+-- what a parity cell holds for the value v: the ones among its d data bits plus the odd bit, remainder by two
 abbrev pub parity_of : ℕ → Bool → ℕ → ℕ
-parity_of d odd v = (ones (v % 2 ^ d) + one_if odd) % 2
+parity_of d odd v = (count_ones (v % 2 ^ d) + one_if odd) % 2
 
 -- the level of cell i in the list of the frame's cells
 abbrev pub level : Format → ℕ → ℕ → Bool

@@ -27,10 +27,10 @@ unfoldable pub number : List Bool → ℕ
 number [] = 0
 number (b ∷ bs) = one_if b + number bs * 2
 
--- whether the number of ones is odd
-unfoldable pub odd_ones : List Bool → Bool
-odd_ones [] = false
-odd_ones (b ∷ bs) = differ b (odd_ones bs)
+-- how many of the bits are ones
+unfoldable pub ones : List Bool → ℕ
+ones [] = 0
+ones (b ∷ bs) = one_if b + ones bs
 
 -- the format that SMR and SEMR give; `half_bit` is the cell length in halves
 unfoldable pub format : ℕ → ℕ → Format
@@ -52,9 +52,13 @@ stop f = suc (f.«data» + one_if f.parity)
 abbrev pub cells : Format → ℕ
 cells f = stop f + f.stops
 
--- the parity cell of these data bits, if the format has one: with it the ones are even in number, odd with `odd`
+-- the parity bit of these data bits: the ones among them plus the odd bit, remainder by two. With it the ones are even in number, odd with `odd`
+abbrev pub parity_bit : Format → List Bool → ℕ
+parity_bit f bs = (ones bs + one_if f.odd) % 2
+
+-- the parity cell of these data bits, if the format has one
 unfoldable pub parity_cell : Format → List Bool → List Bool
-parity_cell f bs = cond f.parity (differ (odd_ones bs) f.odd ∷ []) []
+parity_cell f bs = cond f.parity (eqb (parity_bit f bs) 1 ∷ []) []
 
 -- the levels of the cells with these data bits, a one as true: start, data, parity, stops
 unfoldable pub frame : Format → List Bool → List Bool

@@ -129,9 +129,9 @@ impl Format {
             return value & 0xff;
         }
         let bits = value & low_ones(self.data);
-        let odd = bits.count_ones() & 1 != 0;
-        let parity = u16::from(self.parity & (odd ^ self.odd));
-        bits << 1 | parity << (self.data + 1) | low_ones(self.stops) << self.stop()
+        let parity_bit = (bits.count_ones() + u32::from(self.odd)) % 2;
+        let parity_cell = u16::from(self.parity) * parity_bit as u16;
+        bits << 1 | parity_cell << (self.data + 1) | low_ones(self.stops) << self.stop()
     }
 
     // The value in a word.

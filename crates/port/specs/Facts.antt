@@ -2,7 +2,7 @@
 -- run in crates/report/specs/Cases.antt; this one stands beside the definition, so that one in which nothing happens, or no word arrives, is refused here.
 -- Assumes nothing.
 use Rattle.std.specs.Prelude.{◌≡◌, ℕ, zero, suc, ◌/◌, ◌%◌, Bool, true, ◌&&◌, List, [], ◌∷◌, ◌++◌, ◌==◌, refl}
-use Rattle.frame.specs.Frame.{bits, number, odd_ones, format, parity_cell, frame, word, format_valid, word_valid, has, differ, one_if}
+use Rattle.frame.specs.Frame.{bits, number, ones, format, parity_cell, frame, word, format_valid, word_valid, has, differ, one_if}
 use Rattle.port.specs.declared.Port.{Port}
 use Rattle.shift.specs.Receiver.{sample_at}
 use Rattle.port.specs.Receiver.{arm_receive, complete_receive, advance_rx}
@@ -21,7 +21,7 @@ use Rattle.port.specs.Calls.{Answer, called, direct, run}
 -- ---- how they are computed
 -- a direct call with every definition under it open
 unfoldable pub computed : Call → Port → Answer
-unfolding direct called valid registers_valid character_valid word_in_place format_valid word_valid fresh reset_registers reset set_power receive_input external_edge input_pins peek read write_scr write_tdr status_with status_write stored connect load_tail after_store write process_basic sync clocked_edge advance half_step halves refresh_sync_clock take_bit receive_bit tail_ends bit_out shift_out sync_edge loaded preloaded begin start_at try_start next_cell advance_tx sample_at arm_receive complete_receive advance_rx bits number odd_ones format parity_cell frame word
+unfolding direct called valid registers_valid character_valid word_in_place format_valid word_valid fresh reset_registers reset set_power receive_input external_edge input_pins peek read write_scr write_tdr status_with status_write stored connect load_tail after_store write process_basic sync clocked_edge advance half_step halves refresh_sync_clock take_bit receive_bit tail_ends bit_out shift_out sync_edge loaded preloaded begin start_at try_start next_cell advance_tx sample_at arm_receive complete_receive advance_rx bits number ones format parity_cell frame word
 computed c p = direct c p
 
 unfoldable pub after_calls : List Call → Port

@@ -2,7 +2,7 @@
 -- Assumes nothing.
 use Rattle.std.specs.Prelude.{None, Some, Option}
 use mathlib.Core.Path.{◌≡◌, refl, sym, ap, ◌∙◌, subst}
-use mathlib.Core.Logic.{◌≢◌}
+use mathlib.Core.Logic.{◌≢◌, ◌⊎◌, inl, inr}
 use Prim.Native.Nat.{ℕ, suc, ◌+◌, ◌-◌, ◌*◌, ◌/◌, ◌%◌, ◌^◌, ◌<◌}
 use native.Mathlib.Omega.{arith}
 use native.Mathlib.Nat.{le_refl, le_of_eq, pow-suc, le_of_lt, one-mul}
@@ -16,10 +16,15 @@ use lib.IntN.{ℤ, pos, negsuc}
 use borrow.Author.Tests.{lt-ltb, le-ltb, eq-eqb, ne_eqb}
 use Rattle.frame.specs.declared.Format.{Format}
 use Rattle.shift.specs.declared.Rx.{Rx}
+use Rattle.frame.proofs.Laws.{two}
 use Rattle.frame.proofs.Words.{number_lt}
-use Rattle.frame.specs.Frame.{differ, has, number, odd_ones, one_if}
+use Rattle.frame.specs.Frame.{differ, has, number, ones, one_if, parity_bit}
 use Rattle.shift.specs.Receiver.{sample_at}
 use Rattle.recovery.proofs.View.{fall, state, v_advance, v_arm, v_basic, v_count, v_half}
+
+-- the receiver's running parity of these bits: whether the ones are odd in number
+abbrev pub odd_ones : List Bool → Bool
+odd_ones bs = eqb (ones bs % 2) 1
 
 -- the word in the receiver after the start cell and j cells more, with these data bits
 abbrev pub rx_at : Format → List Bool → ℕ → ℕ → Rx
@@ -48,21 +53,20 @@ or_top bs j e =
     ∙ or_shifted_r 1 j (number bs) (subst (λ (k : ℕ). number bs < 2 ^ k) e (number_lt bs))
     ∙ omega arith
 
-ones_snoc : (bs : List Bool) (b : Bool) → odd_ones (bs ++ (b ∷ [])) ≡ differ (odd_ones bs) b
-unfolding odd_ones
-ones_snoc [] true = refl
-ones_snoc [] false = refl
-ones_snoc (a ∷ bs) b = rw (ones_snoc bs b) (assoc a (odd_ones bs) b)
+ones_snoc : (bs : List Bool) (b : Bool) → ones (bs ++ (b ∷ [])) ≡ ones bs + one_if b
+unfolding ones
+ones_snoc [] b = omega arith
+ones_snoc (a ∷ bs) b = rw (ones_snoc bs b) (omega arith)
+
+-- with a flag more the remainder turns where the flag is set, as the running parity does
+odd_with : (n : ℕ) (b : Bool) → eqb ((n + one_if b) % 2) 1 ≡ differ (eqb (n % 2) 1) b
+odd_with n b = go (two n) b
   where
-    assoc : (x y z : Bool) → differ x (differ y z) ≡ differ (differ x y) z
-    assoc true true true = refl
-    assoc true true false = refl
-    assoc true false true = refl
-    assoc true false false = refl
-    assoc false true true = refl
-    assoc false true false = refl
-    assoc false false true = refl
-    assoc false false false = refl
+    go : ((n % 2 ≡ 0) ⊎ (n % 2 ≡ 1)) → (b : Bool) → eqb ((n + one_if b) % 2) 1 ≡ differ (eqb (n % 2) 1) b
+    go (inl e) true = let g : (n + 1) % 2 ≡ 1 = omega arith in rw (e, g)
+    go (inl e) false = let g : (n + 0) % 2 ≡ 0 = omega arith in rw (e, g)
+    go (inr e) true = let g : (n + 1) % 2 ≡ 0 = omega arith in rw (e, g)
+    go (inr e) false = let g : (n + 0) % 2 ≡ 1 = omega arith in rw (e, g)
 
 -- the value with the next data bit
 next_value : (bs : List Bool) (j : ℕ) → j < length bs
@@ -74,7 +78,7 @@ next_value bs j lt = rw (take-suc bs j false, number_snoc (take j bs) (get_or bs
     go false = omega arith
 
 next_parity : (bs : List Bool) (j : ℕ) → j < length bs → differ (odd_ones (take j bs)) (get_or bs j false) ≡ odd_ones (take (suc j) bs)
-next_parity bs j lt = rw (take-suc bs j false) (sym (ones_snoc (take j bs) (get_or bs j false)))
+next_parity bs j lt = rw (take-suc bs j false, ones_snoc (take j bs) (get_or bs j false)) (sym (odd_with (ones (take j bs)) (get_or bs j false)))
 
 past_parity : (w : ℕ) (p : Bool) → (eqb (w + one_if p) w && p) ≡ false
 past_parity w true = rw (ne_eqb (w + 1) w (omega arith))
@@ -117,7 +121,7 @@ module _ (f : Format) (h : ℕ) (hi : Bool) (s d n : ℕ) where
   pub starts : (bs : List Bool) →
       v_half (state f (Some (rx_wait f (negsuc 0) (suc h))) h hi false s d n)
       ≡ state f (Some (rx_at f bs 0 (suc h + f.half_bit))) (suc h) (not hi) false s d n
-  unfolding v_half v_basic v_advance v_arm sample_at number odd_ones
+  unfolding v_half v_basic v_advance v_arm sample_at number ones
   starts bs = rw (eq-eqb (suc h) (suc h) refl)
 
   pub takes : (bs : List Bool) (j : ℕ) → j < length bs → length bs ≡ f.«data»
@@ -128,12 +132,12 @@ module _ (f : Format) (h : ℕ) (hi : Bool) (s d n : ℕ) where
       rw (eq-eqb (suc h) (suc h) refl, lt-ltb j f.«data» (subst (λ (k : ℕ). j < k) e lt), next_value bs j lt, next_parity bs j lt)
 
   pub checks : (bs : List Bool) → length bs ≡ f.«data» → f.parity ≡ true
-      → v_half (state f (Some (rx_at f bs f.«data» (suc h))) h hi (differ (odd_ones bs) f.odd) s d n)
-      ≡ state f (Some (rx_at f bs (suc f.«data») (suc h + f.half_bit))) (suc h) (not hi) (differ (odd_ones bs) f.odd) s d n
+      → v_half (state f (Some (rx_at f bs f.«data» (suc h))) h hi (eqb (parity_bit f bs) 1) s d n)
+      ≡ state f (Some (rx_at f bs (suc f.«data») (suc h + f.half_bit))) (suc h) (not hi) (eqb (parity_bit f bs) 1) s d n
   unfolding v_half v_basic v_advance v_arm sample_at
   checks bs e p =
       rw (eq-eqb (suc h) (suc h) refl, le-ltb f.«data» f.«data» (le_refl f.«data»), eq-eqb f.«data» f.«data» refl, p, take_all f.«data» bs (le_of_eq e), take_all (suc f.«data») bs (omega (arith, e)))
-      (rw (same (differ (odd_ones bs) f.odd)))
+      (rw (odd_with (ones bs) f.odd, same (differ (odd_ones bs) f.odd)))
     where
       same : (b : Bool) → differ b b ≡ false
       same true = refl

@@ -18,12 +18,12 @@ use borrow.Author.Tests.{lt-ltb, lt-leb, eq-eqb, ne_eqb}
 use Rattle.frame.specs.declared.Format.{Format}
 use Rattle.shift.specs.declared.Rx.{Rx}
 use Rattle.frame.proofs.Words.{bits_length, cells_length, data_cell, number_bits, parity_at, start_cell, stop_cell, word_bits}
-use Rattle.frame.specs.Frame.{bits, differ, frame, has, number, odd_ones, one_if, stop}
+use Rattle.frame.specs.Frame.{bits, frame, has, number, one_if, parity_bit, stop}
 use Rattle.shift.specs.Receiver.{rx_clocked}
 use Rattle.recovery.specs.Line.{Count, LineItem, count_after, half_passes, mark, none_yet, prefix, rdr_read, signal, span, spread, stop_cells_begun, stop_cells_passed, tally_after, values, word_of}
 use Rattle.frame.proofs.Laws.{one_if≤}
 use Rattle.recovery.proofs.Signal.{spread_at, spread_length, tail_marks}
-use Rattle.recovery.proofs.Steps.{and_false, arm_mark, checks, falls, false_start, idle, line_arms, quiet, rx_at, rx_wait, starts, stops_at, takes}
+use Rattle.recovery.proofs.Steps.{and_false, arm_mark, checks, falls, false_start, idle, line_arms, odd_ones, quiet, rx_at, rx_wait, starts, stops_at, takes}
 use Rattle.recovery.proofs.View.{View, completing, fall, state, v_arm, v_flags, v_half, v_mark}
 
 -- no word in the receiver, or one that waits for the falling phase
@@ -257,10 +257,10 @@ module _ (f : Format) (items : List LineItem) (r0 : ℕ) where
 
       -- the parity cell
       check_half : (e : ℕ) → suc k ≡ f.«data» * f.half_bit + f.half_bit + e → f.half_bit / 2 ≤ e → e ≤ f.half_bit / 2 + 1 → f.parity ≡ true → Ahead (suc k)
-          → Next (differ (odd_ones (bits f.«data» v)) f.odd) (Some (rx_at f (bits f.«data» v) f.«data» (suc h)))
+          → Next (eqb (parity_bit f (bits f.«data» v)) 1) (Some (rx_at f (bits f.«data» v) f.«data» (suc h)))
       unfolding completing
       check_half e q lo up p a =
-          let m : Bool = differ (odd_ones (bits f.«data» v)) f.odd in
+          let m : Bool = eqb (parity_bit f (bits f.«data» v)) 1 in
           show_half c ls (state f (Some (rx_at f (bits f.«data» v) f.«data» (suc h))) h hi m s d n)
           (state f (Some (rx_at f (bits f.«data» v) (suc f.«data») (suc h + f.half_bit))) (suc h) (not hi) m s d n) m false
           (rw (eq-eqb (suc h) (suc h) refl, p, ne_eqb f.«data» (f.«data» + 1) (omega arith)))
@@ -342,7 +342,7 @@ module _ (f : Format) (items : List LineItem) (r0 : ℕ) where
           let le : k < span f = omega (arith, room j jle) in
           let same : j ≡ f.«data» = omega (arith, one_if≤ f.parity) in
           let p : f.parity ≡ true = has_parity f.parity (omega arith) in
-          let w : m ≡ differ (odd_ones (bits f.«data» v)) f.odd
+          let w : m ≡ eqb (parity_bit f (bits f.«data» v)) 1
           = level (suc j) (pred e) (omega arith) (omega arith) (omega arith) le
           ∙ ap (λ (x : ℕ). get_or (frame f (bits f.«data» v)) (suc x) false) same ∙ parity_at f (bits f.«data» v) (bits_length f.«data» v) p in
           let g : suc k ≡ f.«data» * f.half_bit + f.half_bit + e = subst (λ (x : ℕ). suc k ≡ x * f.half_bit + f.half_bit + e) same q in

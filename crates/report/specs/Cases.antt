@@ -2,7 +2,7 @@
 -- of refused commands; with them the greatest length, and the lengths of scripts with resets. Each table has one theorem, by computation.
 -- Assumes nothing.
 use Rattle.std.specs.Prelude.{ℕ, ◌≡◌, refl, List, [], ◌∷◌, ◌++◌, map, replicate}
-use Rattle.frame.specs.Frame.{bits, number, odd_ones, format, parity_cell, frame, word, format_valid, word_valid}
+use Rattle.frame.specs.Frame.{bits, number, ones, format, parity_cell, frame, word, format_valid, word_valid}
 use Rattle.shift.specs.Receiver.{sample_at}
 use Rattle.shift.specs.Valid.{character_valid, word_in_place}
 use Rattle.port.specs.Receiver.{arm_receive, complete_receive, advance_rx}
@@ -76,7 +76,7 @@ joined [] = 101 ∷ 110 ∷ 100 ∷ 32 ∷ 51 ∷ 53 ∷ 50 ∷ 10 ∷ []
 joined (l ∷ ls) = l ++ joined ls
 
 pub whole_run : printout input ≡ joined (map (λ k. k.text) cases)
-unfolding printout play play_items transmit_level interrupt direct called port_called baud_valid cycles halves_counted valid registers_valid character_valid word_in_place format_valid word_valid fresh fresh_port reset_registers reset set_power receive_input external_edge input_pins peek read write_scr write_tdr status_with status_write stored connect load_tail after_store write process_basic sync clocked_edge advance half_step halves refresh_sync_clock take_bit receive_bit tail_ends bit_out shift_out sync_edge loaded preloaded begin start_at try_start next_cell advance_tx sample_at arm_receive complete_receive advance_rx bits number odd_ones format parity_cell frame word
+unfolding printout play play_items transmit_level interrupt direct called port_called baud_valid cycles halves_counted valid registers_valid character_valid word_in_place format_valid word_valid fresh fresh_port reset_registers reset set_power receive_input external_edge input_pins peek read write_scr write_tdr status_with status_write stored connect load_tail after_store write process_basic sync clocked_edge advance half_step halves refresh_sync_clock take_bit receive_bit tail_ends bit_out shift_out sync_edge loaded preloaded begin start_at try_start next_cell advance_tx sample_at arm_receive complete_receive advance_rx bits number ones format parity_cell frame word
 whole_run = refl
 
 -- ---- refused commands
@@ -112,7 +112,7 @@ abbrev pub told_by : Run Progress → List ℕ
 told_by r = r.number ∷ r.offset ∷ r.used ∷ []
 
 pub each_refusal : map (λ k. told_by (play fresh k.script (replicate k.room 0))) refused_cases ≡ map (λ k. k.told) refused_cases
-unfolding play play_items transmit_level interrupt direct called port_called baud_valid cycles halves_counted valid registers_valid character_valid word_in_place format_valid word_valid fresh fresh_port reset_registers reset set_power receive_input external_edge input_pins peek read write_scr write_tdr status_with status_write stored connect load_tail after_store write process_basic sync clocked_edge advance half_step halves refresh_sync_clock take_bit receive_bit tail_ends bit_out shift_out sync_edge loaded preloaded begin start_at try_start next_cell advance_tx sample_at arm_receive complete_receive advance_rx bits number odd_ones format parity_cell frame word
+unfolding play play_items transmit_level interrupt direct called port_called baud_valid cycles halves_counted valid registers_valid character_valid word_in_place format_valid word_valid fresh fresh_port reset_registers reset set_power receive_input external_edge input_pins peek read write_scr write_tdr status_with status_write stored connect load_tail after_store write process_basic sync clocked_edge advance half_step halves refresh_sync_clock take_bit receive_bit tail_ends bit_out shift_out sync_edge loaded preloaded begin start_at try_start next_cell advance_tx sample_at arm_receive complete_receive advance_rx bits number ones format parity_cell frame word
 each_refusal = refl
 
 -- ---- the length
@@ -145,11 +145,11 @@ counted_cases =
     ∷ []
 
 pub each_length : map (λ k. (play fresh k.script (replicate 50 0)).state.length) counted_cases ≡ map (λ k. k.length) counted_cases
-unfolding play play_items transmit_level interrupt direct called port_called baud_valid cycles halves_counted valid registers_valid character_valid word_in_place format_valid word_valid fresh fresh_port reset_registers reset set_power receive_input external_edge input_pins peek read write_scr write_tdr status_with status_write stored connect load_tail after_store write process_basic sync clocked_edge advance half_step halves refresh_sync_clock take_bit receive_bit tail_ends bit_out shift_out sync_edge loaded preloaded begin start_at try_start next_cell advance_tx sample_at arm_receive complete_receive advance_rx bits number odd_ones format parity_cell frame word
+unfolding play play_items transmit_level interrupt direct called port_called baud_valid cycles halves_counted valid registers_valid character_valid word_in_place format_valid word_valid fresh fresh_port reset_registers reset set_power receive_input external_edge input_pins peek read write_scr write_tdr status_with status_write stored connect load_tail after_store write process_basic sync clocked_edge advance half_step halves refresh_sync_clock take_bit receive_bit tail_ends bit_out shift_out sync_edge loaded preloaded begin start_at try_start next_cell advance_tx sample_at arm_receive complete_receive advance_rx bits number ones format parity_cell frame word
 each_length = refl
 
 -- a run on the port that another left begins with 0: so each of two runs of the same script has its own edges only
 pub each_its_own :
     (play (play fresh (0x06 ∷ 0x03 ∷ 0x03 ∷ 0x05 ∷ []) (replicate 50 0)).state.sci (0x06 ∷ 0x03 ∷ 0x03 ∷ 0x05 ∷ []) (replicate 50 0)).state.length ≡ 5
-unfolding play play_items transmit_level interrupt direct called port_called baud_valid cycles halves_counted valid registers_valid character_valid word_in_place format_valid word_valid fresh fresh_port reset_registers reset set_power receive_input external_edge input_pins peek read write_scr write_tdr status_with status_write stored connect load_tail after_store write process_basic sync clocked_edge advance half_step halves refresh_sync_clock take_bit receive_bit tail_ends bit_out shift_out sync_edge loaded preloaded begin start_at try_start next_cell advance_tx sample_at arm_receive complete_receive advance_rx bits number odd_ones format parity_cell frame word
+unfolding play play_items transmit_level interrupt direct called port_called baud_valid cycles halves_counted valid registers_valid character_valid word_in_place format_valid word_valid fresh fresh_port reset_registers reset set_power receive_input external_edge input_pins peek read write_scr write_tdr status_with status_write stored connect load_tail after_store write process_basic sync clocked_edge advance half_step halves refresh_sync_clock take_bit receive_bit tail_ends bit_out shift_out sync_edge loaded preloaded begin start_at try_start next_cell advance_tx sample_at arm_receive complete_receive advance_rx bits number ones format parity_cell frame word
 each_its_own = refl
