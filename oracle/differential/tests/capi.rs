@@ -6,6 +6,7 @@ use differential::{
     document,
     run::{Plan, Sides, report, run},
     scripts::{self, calls::CallsPlayer, player::Player, run::Part},
+    words,
 };
 
 #[test]
@@ -20,6 +21,12 @@ fn arrays_that_are_no_state_are_refused() {
     let (tried, wrong) = arrays();
     assert!(tried > 0);
     assert!(wrong.is_empty(), "{wrong:?}");
+}
+
+#[test]
+fn every_word_is_the_references() {
+    let outcome = words::all(&mut CapiPort::default());
+    assert!(outcome.good(), "{}, {:?}", outcome.compared, outcome.wrong);
 }
 
 #[test]

@@ -1,12 +1,14 @@
 //! Compares the oracle and the proved port. With no option: the gate, which
-//! is the documents' cases, the arrays, the alterations, and all families with
-//! a fixed seed and asserted coverage. The last line is the summary.
+//! is the documents' cases, every word, the arrays, the alterations, and all
+//! families with a fixed seed and asserted coverage. The last line is the
+//! summary.
 use differential::{
     OraclePort, Port,
     alter::ALTERATIONS,
     document,
     program::{self, Arguments, Said, Summary},
     run::{Family, Outcome, Plan, Sides, report, run, self_test},
+    words::{self, WORDS},
 };
 use std::{
     process::ExitCode,
@@ -24,6 +26,7 @@ runner [OPTIONS]       with no option: the gate
   --self-test          only: every alteration must be reported
   --document           only: the documents' cases on both sides, and arrays
                        that are no state
+  --words              only: every word beside the reference's frame.rs
   --coverage           print the counts
   --side capi|oracle   what stands beside the reference; oracle tries the
                        runner itself and compares no port";
@@ -48,6 +51,7 @@ struct Options {
     alter: Option<usize>,
     self_test: bool,
     document: bool,
+    words: bool,
     coverage: bool,
     side: Side,
 }
@@ -64,6 +68,7 @@ fn options() -> Result<Options, String> {
         alter: None,
         self_test: false,
         document: false,
+        words: false,
         coverage: false,
         side: Side::Capi,
     };
@@ -83,6 +88,7 @@ fn options() -> Result<Options, String> {
             "--alter" => o.alter = Some(arguments.number()? as usize),
             "--self-test" => o.self_test = true,
             "--document" => o.document = true,
+            "--words" => o.words = true,
             "--coverage" => o.coverage = true,
             "--side" => {
                 o.side = match arguments.value()?.as_str() {
@@ -160,10 +166,13 @@ fn main() -> ExitCode {
             summary.arrays(arrays(options.plan.seed));
         }
     }
+    if options.gate || options.words {
+        summary.add(words(&mut sides));
+    }
     if options.gate || options.self_test {
         summary.add(alterations(&mut sides, options.plan.seed));
     }
-    if !options.self_test && !options.document {
+    if !options.self_test && !options.document && !options.words {
         summary.add_first(families(&mut sides, &options));
     }
     if options.side == Side::Oracle {
@@ -193,6 +202,19 @@ fn documents(sides: &mut Sides) -> Said {
         format!("{cases} cases of the documents on both sides, {differing} differ"),
         differing == 0,
     )
+}
+
+fn words(sides: &mut Sides) -> Said {
+    let outcome = words::all(&mut *sides.port);
+    for line in outcome.wrong.iter().take(20) {
+        println!("WORD {line}");
+    }
+    let text = format!(
+        "{} of {WORDS} words, {} differ",
+        outcome.compared,
+        outcome.wrong.len()
+    );
+    (text, outcome.good())
 }
 
 fn alterations(sides: &mut Sides, seed: u64) -> Said {
