@@ -5,4 +5,5 @@ pub mod CallLaws
 pub mod SenderKeeps
 pub mod ReceiverKeeps
 pub mod OnePass
+pub mod Causes
 pub mod Skip

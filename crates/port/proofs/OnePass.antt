@@ -217,7 +217,7 @@ module _ {n : ℕ} {p : Port} (r : Ready n p) where
   same_half : (q : Port) → Ready n q → p.half ≡ q.half
   same_half q k = r.half≡ ∙ sym k.half≡
 
-  basic_sent : Sent (process_basic p).half (process_basic p)
+  pub basic_sent : Sent (process_basic p).half (process_basic p)
   unfolding process_basic
   basic_sent =
       let P : Port → Type 0 = Sent p.half in
@@ -225,7 +225,7 @@ module _ {n : ℕ} {p : Port} (r : Ready n p) where
       let k : P w = advance_rx_keeps P (free_receiver P (λ q x s v n k. k)) (advance_tx p) (step_sent r) in
       ap (λ (h : ℕ). due_now (tx_next (process_basic p).tx) h) (sym (same_half (process_basic p) (keep_process_basic r))) ∙ arm_keeps P (λ q x k. k) w k
 
-  basic_taken : Taken (process_basic p).half (process_basic p)
+  pub basic_taken : Taken (process_basic p).half (process_basic p)
   unfolding process_basic
   basic_taken =
       let t : Port = advance_tx p in
@@ -276,11 +276,11 @@ idle_edge b p e = go b
         ap (λ (q : Port). tail_ends_on q.tx q) k ∙ ends p.tx sends
     go false = shifts p.tx sends
 
-refresh_needed : (p : Port) → external p ≡ false → sync_needed p ≡ true → refresh_sync_clock p ≡ with_sync_next p (option_or p.sync_next (Some (p.half + 2)))
+pub refresh_needed : (p : Port) → external p ≡ false → sync_needed p ≡ true → refresh_sync_clock p ≡ with_sync_next p (option_or p.sync_next (Some (p.half + 2)))
 unfolding refresh_sync_clock
 refresh_needed p x e = cond_false (external p) _ _ x ∙ cond_true (sync_needed p) _ _ e
 
-refresh_idle : (p : Port) → external p ≡ false → sync_needed p ≡ false → refresh_sync_clock p ≡ with_clock p None true
+pub refresh_idle : (p : Port) → external p ≡ false → sync_needed p ≡ false → refresh_sync_clock p ≡ with_clock p None true
 unfolding refresh_sync_clock
 refresh_idle p x e = cond_false (external p) _ _ x ∙ cond_false (sync_needed p) _ _ e
 
@@ -327,7 +327,7 @@ basic_armed p = arm_done (advance_rx (advance_tx p))
 
 module _ (p : Port) (sent : Sent (process_basic p).half (process_basic p)) (taken : Taken (process_basic p).half (process_basic p)) where
   -- the basic work changes nothing more, whatever the clock of clocked form
-  basic_again : (d : Option ℕ) (b : Bool) → process_basic (with_clock (process_basic p) d b) ≡ with_clock (process_basic p) d b
+  pub basic_again : (d : Option ℕ) (b : Bool) → process_basic (with_clock (process_basic p) d b) ≡ with_clock (process_basic p) d b
   basic_again d b = basic_still (with_clock (process_basic p) d b) sent taken (arms_clock (process_basic p).rx (process_basic p) d b ∙ basic_armed p)
 
   pub one_pass : external p ≡ false → advance (sync p) ≡ advance p

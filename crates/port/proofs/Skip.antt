@@ -15,7 +15,7 @@ use Rattle.port.specs.Fields.{with_half, with_high, with_edge}
 use Rattle.port.specs.Baud.{external, counted}
 use Rattle.port.specs.Clocked.{refresh_sync_clock, sync_edge}
 use Rattle.port.specs.Half.{process_basic, clocked_edge, advance, half_step, halves}
-use Rattle.port.specs.Private.Skip.{arms_on, clock_fresh, deadline, counted_by, toggled, edge_of, edge_work, ClockGives, Planned, edges}
+use Rattle.port.specs.Private.Skip.{arms_on, clock_fresh, deadline, counted_by, toggled, edge_of, edge_of_cause, edge_work, work_cause, ClockGives, Planned, edges, edges_cause}
 use Rattle.port.specs.Valid.{limit}
 use Rattle.port.specs.Private.Ready.{Ready}
 use Rattle.port.proofs.Keep.{own, keep_process_basic, keep_sync_edge, keep_clocked_edge, keep_refresh_sync_clock, keep_counted, sync_edge_ready, clocked_edge_ready, with_clock_ready}
@@ -23,6 +23,11 @@ use Rattle.port.proofs.SenderKeeps.{free_sender}
 use Rattle.port.proofs.ReceiverKeeps.{free_receiver, advance_keeps}
 use Rattle.port.proofs.OnePass.{basic_still, edge_still, refresh_still, half_once}
 use Rattle.shift.specs.declared.Rx.{Rx}
+use Rattle.shift.specs.declared.cause.Cause.{Cause}
+use Rattle.shift.specs.declared.cause.Cause.TheVariants.{NoWord}
+use Rattle.shift.specs.Cause.{followed_by}
+use Rattle.port.specs.Cause.{edge_cause, clocked_cause, advance_cause, halves_cause}
+use Rattle.port.proofs.Causes.{none_followed, followed_assoc, basic_cause_still, clocked_cause_still, half_cause_once, halves_cause_add}
 
 -- ---- the first half that is due
 -- a due half is none of the k halves after h
@@ -137,6 +142,15 @@ advance_still k p x s =
     let c : clocked_edge q ≡ q = edge_still q (not_now p.sync_next p.half k s.clocks) in
     ap (λ (w : Port). refresh_sync_clock (clocked_edge w)) b ∙ ap refresh_sync_clock c ∙ refresh_still q x (fresh_counted p ∙ s.fresh)
 
+still_cause : (k : ℕ) (p : Port) → Still (suc k) p → advance_cause (counted p) ≡ NoWord
+unfolding advance_cause
+still_cause k p s =
+    let q : Port = counted p in
+    let sends = not_now (tx_next p.tx) p.half k s.sends in
+    let receives = not_now (rx_next p.rx) p.half k s.receives in
+    ap₂ followed_by (basic_cause_still q sends receives)
+    (ap clocked_cause (basic_still q sends receives (arms_counted p.rx p ∙ s.unarmed)) ∙ clocked_cause_still q (not_now p.sync_next p.half k s.clocks))
+
 -- ---- k halves, of which only the last may do more than count
 one_half : {n : ℕ} (p : Port) → Ready n p → n < limit → external p ≡ false → halves 1 p ≡ advance (counted_by 1 p)
 unfolding halves
@@ -156,6 +170,28 @@ all_still zero p r l x s = half_once r (omega (arith, l)) x ∙ advance_still ze
 all_still (suc k) p r l x s =
     let c : half_step p ≡ counted p = half_once r (omega (arith, l)) x ∙ advance_still (suc k) p x s in
     ap (halves (suc k)) c ∙ all_still k (counted p) (keep_counted r (omega (arith, l))) (omega (arith, l)) x (still_counted (suc k) p s) ∙ then_counted (suc k) p
+
+-- the causes of these
+one_cause : {n : ℕ} (p : Port) → Ready n p → n < limit → external p ≡ false → halves_cause 1 p ≡ advance_cause (counted_by 1 p)
+unfolding halves_cause
+one_cause p r l x = half_cause_once r l x ∙ ap advance_cause (one_counted p)
+
+none_first : {n : ℕ} (k m : ℕ) (p : Port) → Ready n p → n < limit → external p ≡ false → Still (suc k) p → halves_cause (suc m) p ≡ halves_cause m (counted p)
+unfolding halves_cause
+none_first k m p r l x s =
+    ap₂ followed_by (half_cause_once r l x ∙ still_cause k p s) (ap (halves_cause m) (half_once r l x ∙ advance_still k p x s)) ∙ none_followed (halves_cause m (counted p))
+
+skip_cause : {n : ℕ} (k : ℕ) (p : Port) → Ready n p → n + suc k ≤ limit → external p ≡ false → Still k p → halves_cause (suc k) p ≡ advance_cause (counted_by (suc k) p)
+skip_cause zero p r l x s = one_cause p r (omega (arith, l)) x
+skip_cause (suc k) p r l x s =
+    none_first k (suc k) p r (omega (arith, l)) x s ∙ skip_cause k (counted p) (keep_counted r (omega (arith, l))) (omega (arith, l)) x (still_counted k p s)
+    ∙ ap advance_cause (then_counted (suc k) p)
+
+all_none : {n : ℕ} (k : ℕ) (p : Port) → Ready n p → n + suc k ≤ limit → external p ≡ false → Still (suc k) p → halves_cause (suc k) p ≡ NoWord
+unfolding halves_cause
+all_none zero p r l x s = none_first zero zero p r (omega (arith, l)) x s
+all_none (suc k) p r l x s =
+    none_first (suc k) (suc k) p r (omega (arith, l)) x s ∙ all_none k (counted p) (keep_counted r (omega (arith, l))) (omega (arith, l)) x (still_counted (suc k) p s)
 
 -- as many as the deadline says
 pub deadline_bounds : (p : Port) (left k : ℕ) → 1 ≤ left → k ≡ deadline left p → (1 ≤ k) × (k ≤ left)
@@ -209,6 +245,19 @@ idle_halves z p (suc i) k r l x ek t e =
     let same : suc (suc i) ≡ k = omega (arith, b.1, t) in
     e ∙ sym (all_still i p r l x (deadline_still p (suc i + 1) i (omega arith) (same ∙ ek)))
 
+pub idle_cause : (z : Cause) (p : Port) (n k : ℕ) → Ready p.half p → p.half + n ≤ limit → external p ≡ false → k ≡ deadline (n + 1) p → n < k → z ≡ NoWord → z ≡ halves_cause n p
+unfolding halves_cause
+idle_cause z p zero k r l x ek t e = e
+idle_cause z p (suc i) k r l x ek t e =
+    let b = deadline_bounds p (suc i + 1) k (omega arith) ek in
+    let same : suc (suc i) ≡ k = omega (arith, b.1, t) in
+    e ∙ sym (all_none i p r l x (deadline_still p (suc i + 1) i (omega arith) (same ∙ ek)))
+
+deadline_cause : (p : Port) (left k : ℕ) → Ready p.half p → external p ≡ false → k ≤ left → p.half + left ≤ limit → k ≡ deadline (left + 1) p → advance_cause (counted_by k p) ≡ halves_cause k p
+deadline_cause p left zero r x l h e = absurd (omega (arith, (deadline_bounds p (left + 1) zero (omega arith) e).0))
+deadline_cause p left (suc zero) r x l h e = sym (one_cause p r (omega (arith, l, h)) x)
+deadline_cause p left (suc (suc i)) r x l h e = sym (skip_cause (suc i) p r (omega (arith, h, l)) x (deadline_still p (left + 1) i (omega arith) e))
+
 pub skip_deadline : (p : Port) (left k : ℕ) → Ready p.half p → external p ≡ false → k ≤ left → p.half + left ≤ limit → k ≡ deadline (left + 1) p → advance (counted_by k p) ≡ halves k p
 skip_deadline p left zero r x l h e = absurd (omega (arith, (deadline_bounds p (left + 1) zero (omega arith) e).0))
 skip_deadline p left (suc zero) r x l h e = sym (one_half p r (omega (arith, l, h)) x)
@@ -236,6 +285,17 @@ edge_t z q p (Some level) d ed t eq e = e ∙ ap (sync_edge level) eq
 pub edge_f : (z p : Port) (pin : Option Bool) (d : Bool) → d ≡ due_now p.sync_next p.half → (is_some pin || d) ≡ false → z ≡ p → z ≡ edge_of pin p
 edge_f z p None d ed t e = e ∙ sym (edge_still p (sym ed ∙ t))
 edge_f z p (Some level) d ed t e = absurd (true≢false t)
+
+pub edge_cause_t : (z : Cause) (q p : Port) (pin : Option Bool) (d : Bool) → d ≡ due_now p.sync_next p.half → (is_some pin || d) ≡ true → q ≡ toggled pin p
+    → z ≡ edge_cause (unwrap_or pin (not p.sck)) q → z ≡ edge_of_cause pin p
+unfolding clocked_cause
+edge_cause_t z q p None d ed t eq e =
+    cond_t (due_now p.sync_next p.half) _ NoWord z (sym ed ∙ t) (e ∙ ap (edge_cause (not p.sck)) eq)
+edge_cause_t z q p (Some level) d ed t eq e = e ∙ ap (edge_cause level) eq
+
+pub edge_cause_f : (z : Cause) (p : Port) (pin : Option Bool) (d : Bool) → d ≡ due_now p.sync_next p.half → (is_some pin || d) ≡ false → z ≡ NoWord → z ≡ edge_of_cause pin p
+edge_cause_f z p None d ed t e = e ∙ sym (clocked_cause_still p (sym ed ∙ t))
+edge_cause_f z p (Some level) d ed t e = absurd (true≢false t)
 
 pub edge_ready : (r p : Port) (pin : Option Bool) → r ≡ edge_of pin p → Ready p.half p → Ready r.half r
 edge_ready r p None e h = clocked_edge_ready r p e h
@@ -295,6 +355,15 @@ module _ (pin : Option Bool) (p : Port) (left k : ℕ) (g : Goes pin left p) (e 
           let none : left ≡ 0 = omega (arith, h, t) in
           d ∙ ap (λ (m : ℕ). counted_by m p) none ∙ counted_none p ∙ sym (ap (λ (m : ℕ). edges (Some level) m p) none)
 
+  -- nor have they a cause
+  pub causes_end : (c : Cause) → left < k → c ≡ followed_by c (edges_cause pin left p)
+  unfolding halves_cause
+  causes_end c t = ap (followed_by c) (go pin g.2 e)
+    where
+      go : (b : Option Bool) → Held b left p → Planned b left k p → NoWord ≡ edges_cause b left p
+      go None x h = idle_cause NoWord p left k g.0 g.1 x h t refl
+      go (Some level) x h = let none : left ≡ 0 = omega (arith, h, t) in sym (ap (λ (m : ℕ). edges_cause (Some level) m p) none)
+
   module _ (l : k ≤ left) (r q : Port) (f : q ≡ counted_by k p) where
     counted_ready : Ready (p.half + k) q
     counted_ready = subst⁻¹ (Ready (p.half + k)) f (keep_counted_by k g.0 (omega (arith, g.1, l)))
@@ -340,3 +409,23 @@ module _ (pin : Option Bool) (p : Port) (left k : ℕ) (g : Goes pin left p) (e 
         go None h plan d =
             ap (halves (left - k)) (d ∙ ap advance f ∙ skip_deadline p left k g.0 h l g.1 plan) ∙ sym (halves_add k (left - k) p)
             ∙ ap (λ (m : ℕ). halves m p) (omega (arith, l))
+
+    -- and of their causes
+    pub causes_on : (n : ℕ) (p₀ : Port) (old new next : Cause) → r ≡ edge_work pin q → new ≡ work_cause pin q → next ≡ followed_by old new
+        → followed_by old (edges_cause pin left p) ≡ edges_cause pin n p₀ → followed_by next (edges_cause pin (left - k) r) ≡ edges_cause pin n p₀
+    unfolding advance advance_cause
+    causes_on n p₀ old new next d w j h =
+        ap (λ (c : Cause). followed_by c (edges_cause pin (left - k) r)) (j ∙ ap (followed_by old) w)
+        ∙ sym (followed_assoc old (work_cause pin q) (edges_cause pin (left - k) r)) ∙ ap (followed_by old) (go pin g.2 e d) ∙ h
+      where
+        go : (b : Option Bool) → Held b left p → Planned b left k p → r ≡ edge_work b q → followed_by (work_cause b q) (edges_cause b (left - k) r) ≡ edges_cause b left p
+        go (Some level) h all d =
+            let one : left ≡ 1 = omega (arith, h, l, all) in
+            let none : left - k ≡ 0 = omega (arith, one, all) in
+            ap (λ (m : ℕ). followed_by (work_cause (Some level) q) (edges_cause (Some level) m r)) none
+            ∙ ap (work_cause (Some level)) (f ∙ ap (λ (m : ℕ). counted_by m p) all ∙ sym (one_counted p))
+            ∙ sym (ap (λ (m : ℕ). edges_cause (Some level) m p) one)
+        go None h plan d =
+            ap₂ followed_by (ap advance_cause f ∙ deadline_cause p left k g.0 h l g.1 plan)
+            (ap (halves_cause (left - k)) (d ∙ ap advance f ∙ skip_deadline p left k g.0 h l g.1 plan))
+            ∙ sym (halves_cause_add k (left - k) p) ∙ ap (λ (m : ℕ). halves_cause m p) (omega (arith, l))

@@ -10,6 +10,7 @@ use Rattle.port.specs.declared.Port.{Port}
 use Rattle.port.specs.declared.Refusal.{Refusal}
 use Rattle.port.specs.declared.Refusal.TheVariants.{Address, Operand, Infrared, Count, State}
 use Rattle.port.specs.declared.Called.{Called}
+use Rattle.port.specs.declared.Outcome.{Outcome}
 use Rattle.port.specs.Baud.{internal, edge_counts}
 use Rattle.port.specs.Half.{halves, uncounted, inside}
 use Rattle.port.specs.Registers.{handles, peek, read, write}
@@ -73,8 +74,8 @@ number Count = 4
 number State = 8
 
 -- what a call on a port in its place answers, and that port after it
-abbrev pub answered : Result ℕ Refusal → Port → Answer
-answered (Ok v) p = done v p
+abbrev pub answered : Result Outcome Refusal → Port → Answer
+answered (Ok r) p = done r.value p
 answered (Err refusal) p = refuse (number refusal) p
 
 -- a refusal leaves the port as it was

@@ -9,5 +9,6 @@ pub mod Power
 pub mod Input
 pub mod Valid
 pub mod Calls
+pub mod Cause
 pub mod Facts
 pub mod Private

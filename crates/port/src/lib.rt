@@ -1,8 +1,9 @@
 // SCI3 of the H8/38602R as a value: registers, sender, receiver and clock of sci.rs (document 01). Its `pins` and `interrupt` are in the crate pins.
 #![tactic(auto)]
 
-ghost use Rattle.std.specs.Prelude.{◌≡◌, ◌+◌, ◌<◌, ◌≤◌, true, false, if◌then◌else◌, bit_or, Some, Ok};
+ghost use Rattle.std.specs.Prelude.{◌≡◌, ◌+◌, ◌<◌, ◌≤◌, true, false, if◌then◌else◌, bit_or, Some, IfOk};
 ghost use Rattle.shift.specs.declared.Tx.TheVariants.{Off};
+ghost use Rattle.port.specs.Cause.{complete_cause, sample_cause, rx_cause, bit_cause, receive_cause, edge_cause, basic_cause, halves_cause, external_cause, call_cause};
 ghost use Rattle.port.specs.Fields.{with_rx, with_input_clock};
 ghost use Rattle.port.specs.Baud.{format_of, external, running, internal, edge_counts, next_fall, boundary};
 ghost use Rattle.frame.specs.Frame.{has};
@@ -12,7 +13,7 @@ ghost use Rattle.shift.specs.Sender.{level};
 ghost use Rattle.port.specs.Sender.{character, loaded, preloaded, drive, begin, start_at, start_loaded, try_start_on, try_start, finish_tail, tailed, next_cell, send_step_on, advance_tx};
 ghost use Rattle.port.specs.Clocked.{sync_needed, refresh_sync_clock, take_bit, receive_bit, tail_ends, bit_out, shift_out, sync_edge};
 ghost use Rattle.port.specs.Half.{process_basic, halves, uncounted};
-ghost use Rattle.port.specs.Private.Skip.{arms_on, toggled, edge_of, edge_work, clock_fresh, deadline, counted_by, ClockGives, Planned, edges};
+ghost use Rattle.port.specs.Private.Skip.{arms_on, toggled, edge_of, edge_of_cause, edge_work, work_cause, clock_fresh, deadline, counted_by, ClockGives, Planned, edges, edges_cause};
 ghost use Rattle.port.specs.Registers.{address, peek, read, sender_off, scr_tx, write_scr, write_tdr, status_write, stored, connect, load_tail, after_store, takes_writes, write};
 ghost use Rattle.port.specs.Power.{fresh, reset_registers, resets, reset, set_power};
 ghost use Rattle.port.specs.Input.{receive_input, external_edge};
@@ -24,7 +25,9 @@ ghost use Rattle.port.specs.Private.Ready.{Ready};
 use command::Call;
 use frame::Format;
 use register::Register;
-use shift::{Character, Rx, Sampled, Tx, due_valid, rx_next, rx_synchronous, rx_valid, within};
+use shift::{
+    Cause, Character, Rx, Sampled, Tx, due_valid, rx_next, rx_synchronous, rx_valid, within,
+};
 
 mod calls;
 mod register;
@@ -81,10 +84,18 @@ pub enum Refusal {
     State = 8,
 }
 
-// What an accepted direct call hands back: the value read, else 0, and the port after it. A refused one leaves the port as it was.
+// What an accepted call answers: the value read, else 0, and the cause of the last word that it completed.
+#[derive(Clone, Copy)]
+pub struct Outcome {
+    pub value: u8,
+    pub cause: Cause,
+}
+
+// What an accepted direct call hands back: its outcome, and the port after it. A refused one leaves the port as it was.
 #[derive(Clone, Copy)]
 pub struct Called {
     pub value: u8,
+    pub cause: Cause,
     pub port: Port,
 }
 
@@ -738,49 +749,57 @@ impl Port {
 
     // A whole word, the receiver being empty again.
     #[tactic(auto, unfolding(crate::specs::Receiver::complete_receive))]
-    fn complete_receive(&mut self, rx: Rx)
-        ensures { self.new ≡ complete_receive self.old rx }
+    fn complete_receive(&mut self, rx: Rx) -> Cause
+        ensures port { self.new ≡ complete_receive self.old rx }
+        ensures cause { result ≡ complete_cause self.old rx }
     {
-        if self.ssr & 0x40 != 0 {
+        let full = self.ssr & 0x40 != 0;
+        let cause = Cause::of(full, rx.error);
+        if full {
             self.ssr |= rx.error | 0x20;
-            return;
+            return cause;
         }
         self.rdr = rx.value;
         if rx.error == 0 {
             self.ssr |= 0x40;
             self.received = self.received.wrapping_add(1);
-            return;
+            return cause;
         }
         self.ssr |= rx.error;
+        cause
     }
 
-    fn after_sample(&mut self, sampled: Sampled)
-        ensures { self.new ≡ after_sample sampled self.old }
+    fn after_sample(&mut self, sampled: Sampled) -> Cause
+        ensures port { self.new ≡ after_sample sampled self.old }
+        ensures cause { result ≡ sample_cause sampled self.old }
     {
         match sampled {
             Sampled::Dropped => self.rx = None,
             Sampled::Onward(rx) => self.rx = Some(rx),
             Sampled::Whole(rx) => {
                 self.rx = None;
-                self.complete_receive(rx);
+                return self.complete_receive(rx);
             }
         }
+        Cause::NoWord
     }
 
     // The receiver's step, at the half on which it is due.
     #[tactic(auto, unfolding(crate::specs::Receiver::advance_rx))]
-    fn advance_rx(&mut self)
+    fn advance_rx(&mut self) -> Cause
         requires { (self.old.half ≤ limit) × PlacedIn self.old.rx }
-        ensures { self.new ≡ advance_rx self.old }
+        ensures port { self.new ≡ advance_rx self.old }
+        ensures cause { result ≡ rx_cause self.old }
     {
         let Some(rx) = self.rx else {
-            return;
+            return Cause::NoWord;
         };
         if rx.next == Some(self.half) {
             let format = self.format();
             let level = self.input_level();
-            self.after_sample(sampled(rx, format, level, self.half));
+            return self.after_sample(sampled(rx, format, level, self.half));
         }
+        Cause::NoWord
     }
 
     // ---- clocked form
@@ -810,31 +829,34 @@ impl Port {
     }
 
     #[tactic(auto, unfolding(crate::specs::Clocked::take_bit))]
-    fn take_bit(&mut self, rx: Rx)
+    fn take_bit(&mut self, rx: Rx) -> Cause
         requires { Placed rx × (rx.format.synchronous ≡ true) }
-        ensures { self.new ≡ take_bit self.old rx }
+        ensures port { self.new ≡ take_bit self.old rx }
+        ensures cause { result ≡ bit_cause self.old rx }
     {
         let taken = bit_taken(rx, self.input_level());
         if rx.last_bit() {
             self.rx = None;
-            self.complete_receive(taken);
-            return;
+            return self.complete_receive(taken);
         }
         self.rx = Some(taken);
+        Cause::NoWord
     }
 
     // A clocked word goes on, or begins; it waits while an error flag stands.
-    #[tactic(auto, unfolding(crate::specs::Clocked::receive_bit))]
-    fn receive_bit(&mut self)
+    #[tactic(auto, unfolding(crate::specs::Clocked::receive_bit, crate::specs::Cause::receive_cause))]
+    fn receive_bit(&mut self) -> Cause
         requires { PlacedIn self.old.rx }
-        ensures { self.new ≡ receive_bit self.old }
+        ensures port { self.new ≡ receive_bit self.old }
+        ensures cause { result ≡ receive_cause self.old }
     {
         if (self.scr & 0x10 != 0) & (self.ssr & 0x38 == 0) {
             let rx = self.rx.unwrap_or(Rx::clocked(self.format()));
             if rx.format.synchronous {
-                self.take_bit(rx);
+                return self.take_bit(rx);
             }
         }
+        Cause::NoWord
     }
 
     // A tail of a clocked word ends.
@@ -883,17 +905,19 @@ impl Port {
     }
 
     // An edge of the clock, to this level.
-    #[tactic(auto, using(crate::proofs::Keep::receive_bit_ready, crate::proofs::Keep::ready_half, crate::proofs::Keep::ready_tx), unfolding(crate::specs::Clocked::sync_edge))]
-    fn sync_edge(&mut self, high: bool)
+    #[tactic(auto, using(crate::proofs::Keep::receive_bit_ready, crate::proofs::Keep::ready_half, crate::proofs::Keep::ready_tx), unfolding(crate::specs::Clocked::sync_edge, crate::specs::Cause::edge_cause))]
+    fn sync_edge(&mut self, high: bool) -> Cause
         requires { Ready self.old.half self.old }
-        ensures { self.new ≡ sync_edge high self.old }
+        ensures port { self.new ≡ sync_edge high self.old }
+        ensures cause { result ≡ edge_cause high self.old }
     {
         if high {
-            self.receive_bit();
+            let cause = self.receive_bit();
             self.tail_ends();
-        } else {
-            self.shift_out();
+            return cause;
         }
+        self.shift_out();
+        Cause::NoWord
     }
 
     // ---- pins in
@@ -906,28 +930,32 @@ impl Port {
     }
 
     // The line, then an edge of the clock pin where it counts.
-    #[tactic(auto, unfolding(crate::specs::Input::external_edge))]
-    fn with_pins(&mut self, clock: bool, line: bool)
+    #[tactic(auto, unfolding(crate::specs::Input::external_edge, crate::specs::Cause::external_cause))]
+    fn with_pins(&mut self, clock: bool, line: bool) -> Cause
         requires { Ready self.old.half self.old × (edge_counts clock self.old ≡ true → self.old.half < limit) }
-        ensures { self.new ≡ external_edge clock (with_input_clock (receive_input line self.old) clock) }
+        ensures port { self.new ≡ external_edge clock (with_input_clock (receive_input line self.old) clock) }
+        ensures cause { result ≡ external_cause clock (with_input_clock (receive_input line self.old) clock) }
     {
         self.receive_input(line);
         self.input_clock = clock;
         if self.edge_counts(clock) {
-            self.edges(1, 1, Some(clock));
+            return self.edges(1, 1, Some(clock));
         }
+        Cause::NoWord
     }
 
     // ---- one half
     // The basic work at a half.
-    #[tactic(auto, using(crate::proofs::Keep::advance_tx_ready, crate::proofs::Keep::advance_rx_ready, crate::proofs::Keep::ready_half, crate::proofs::Keep::ready_rx), unfolding(crate::specs::Half::process_basic, crate::specs::Receiver::arm_receive))]
-    fn process_basic(&mut self)
+    #[tactic(auto, using(crate::proofs::Keep::advance_tx_ready, crate::proofs::Keep::advance_rx_ready, crate::proofs::Keep::ready_half, crate::proofs::Keep::ready_rx), unfolding(crate::specs::Half::process_basic, crate::specs::Receiver::arm_receive, crate::specs::Cause::basic_cause))]
+    fn process_basic(&mut self) -> Cause
         requires { Ready self.old.half self.old }
-        ensures { self.new ≡ process_basic self.old }
+        ensures port { self.new ≡ process_basic self.old }
+        ensures cause { result ≡ basic_cause self.old }
     {
         self.advance_tx();
-        self.advance_rx();
+        let cause = self.advance_rx();
         self.arm_receive();
+        cause
     }
 
     // The port's own clock toggles; an edge of the pin leaves it as it is.
@@ -941,16 +969,18 @@ impl Port {
     }
 
     // An edge of clocked form's clock: the pin's, or the port's own at its due half.
-    #[tactic(auto, using(crate::proofs::Skip::edge_t, crate::proofs::Skip::edge_f, crate::proofs::Skip::toggled_ready))]
-    fn clocked_edge(&mut self, pin: Option<bool>)
+    #[tactic(auto, using(crate::proofs::Skip::edge_t, crate::proofs::Skip::edge_f, crate::proofs::Skip::edge_cause_t, crate::proofs::Skip::edge_cause_f, crate::proofs::Skip::toggled_ready))]
+    fn clocked_edge(&mut self, pin: Option<bool>) -> Cause
         requires { Ready self.old.half self.old }
-        ensures { self.new ≡ edge_of pin self.old }
+        ensures port { self.new ≡ edge_of pin self.old }
+        ensures cause { result ≡ edge_of_cause pin self.old }
     {
         if pin.is_some() | (self.sync_next == Some(self.half)) {
             let high = pin.unwrap_or(!self.sck);
             self.toggled(pin);
-            self.sync_edge(high);
+            return self.sync_edge(high);
         }
+        Cause::NoWord
     }
 
     // Whether the clock of clocked form is as a refresh leaves it.
@@ -967,13 +997,15 @@ impl Port {
 
     // The work of an edge of the basic clock, once it is counted.
     #[tactic(auto, using(crate::proofs::Keep::process_basic_ready, crate::proofs::Skip::edge_ready, crate::proofs::Keep::ready_half))]
-    fn advance(&mut self, pin: Option<bool>)
+    fn advance(&mut self, pin: Option<bool>) -> Cause
         requires { Ready self.old.half self.old }
-        ensures { self.new ≡ edge_work pin self.old }
+        ensures port { self.new ≡ edge_work pin self.old }
+        ensures cause { result ≡ work_cause pin self.old }
     {
-        self.process_basic();
-        self.clocked_edge(pin);
+        let basic = self.process_basic();
+        let clocked = self.clocked_edge(pin);
         self.refresh_sync_clock();
+        basic.followed_by(clocked)
     }
 
     // The halves up to the next one that may do more than count, at most left. Inlined: the loop of `edges` is a third slower where it is called.
@@ -1003,32 +1035,38 @@ impl Port {
 
     // n halves of the internal clock, or one edge of the clock pin to its level. The first at which something may happen is the one after so many; from there
     // the halves to the next such are counted at once, and so are the ones after the last. It goes on by what `deadline` gives, so no range counts it.
-    fn edges(&mut self, n: u32, first: u32, pin: Option<bool>)
+    fn edges(&mut self, n: u32, first: u32, pin: Option<bool>) -> Cause
         requires { Ready self.old.half self.old × (self.old.half + n ≤ limit) × ClockGives pin n self.old × Planned pin n first self.old }
-        ensures { self.new ≡ edges pin n self.old }
+        ensures port { self.new ≡ edges pin n self.old }
+        ensures cause { result ≡ edges_cause pin n self.old }
     {
+        let mut cause = Cause::NoWord;
         let mut left = n;
         let mut next = first;
         while next <= left {
             self.counted_by(next);
-            self.advance(pin);
+            let last = self.advance(pin);
+            cause = cause.followed_by(last);
             left -= next;
             next = self.deadline(left + 1);
         }
         self.counted_by(left);
+        cause
     }
 
     // n halves of the internal clock. An idle wait does not pay for a call of the loop.
-    #[tactic(auto, using(crate::proofs::Skip::idle_halves))]
-    fn halves(&mut self, n: u32)
+    #[tactic(auto, using(crate::proofs::Skip::idle_halves, crate::proofs::Skip::idle_cause))]
+    fn halves(&mut self, n: u32) -> Cause
         requires { Ready self.old.half self.old × (self.old.half + n ≤ limit) × (external self.old ≡ false) }
-        ensures { self.new ≡ halves n self.old }
+        ensures port { self.new ≡ halves n self.old }
+        ensures cause { result ≡ halves_cause n self.old }
     {
         let first = self.deadline(n + 1);
         if first > n {
             self.counted_by(n);
+            Cause::NoWord
         } else {
-            self.edges(n, first, None);
+            self.edges(n, first, None)
         }
     }
 
@@ -1106,13 +1144,14 @@ impl Port {
     // The direct call, for any port.
     #[tactic(auto, unfolding(crate::specs::Calls::direct))]
     pub fn direct(self, call: Call) -> Result<Called, Refusal>
-        ensures { answer self result ≡ direct call self }
+        ensures answer { answer self result ≡ direct call self }
+        ensures cause { IfOk result (λ called. called.cause ≡ call_cause call self) }
     {
         if !self.valid() {
             return Err(Refusal::State);
         }
         let mut port = self;
-        let value = port.call(call)?;
-        Ok(Called { value, port })
+        let Outcome { value, cause } = port.call(call)?;
+        Ok(Called { value, cause, port })
     }
 }

@@ -113,7 +113,7 @@ side_counted h p d =
     record { at = ap suc d.at; fits = d.fits; began = omega (arith, d.began); flags = d.flags; seen_flags = d.seen_flags; stored = d.stored }
 
 module _ (h : ℕ) (p : Port) (k : Kept h p) (x : external p ≡ false) where
-  basic_ok : Ok (suc h) (process_basic (counted p))
+  pub basic_ok : Ok (suc h) (process_basic (counted p))
   basic_ok = basic_first h (counted p) k.ok.sends.fits (side_counted h p k.ok.side)
 
   -- the basic work on the way adds nothing

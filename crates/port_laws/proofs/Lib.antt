@@ -13,3 +13,4 @@ pub mod KeepRanges
 pub mod Ranges
 pub mod ReceiveErrors
 pub mod Edges
+pub mod Causes

@@ -23,7 +23,7 @@ use Rattle.port_laws.proofs.TallyReceived.{Got, last_clocked, Last, ready, basic
 
 -- ---- the clock of clocked form
 -- it rises now
-abbrev rising : Port → Bool
+abbrev pub rising : Port → Bool
 rising p = due_now p.sync_next p.half && not p.sck
 
 clocked_edge_sent : (p : Port) → Sent (tally (rising p && clocked_tail p.tx) p.transmitted) (clocked_edge p)
@@ -44,7 +44,7 @@ clocked_edge_got p =
 abbrev Rising : Bool → Port → Type 0
 Rising b q = rising q ≡ b
 
-basic_rising : (p : Port) → Rising (rising p) (process_basic p)
+pub basic_rising : (p : Port) → Rising (rising p) (process_basic p)
 basic_rising p =
     let P : Port → Type 0 = Rising (rising p) in basic_keeps P (free_sender P (λ q t u b s x k. k) (λ q n k. k)) (free_receiver P (λ q x s v n k. k)) p refl
 

@@ -72,10 +72,10 @@ advance_got p = go p.rx
         (λ e. out o ∙ sym (ap (λ (b : Bool). tally ((b && clean o) && N) R) e)) (λ e. sym (ap (λ (b : Bool). tally ((b && clean o) && N) R) e))
 
 -- ---- SSR's receive flags, which the sender keeps
-abbrev Flagged : ℕ → Port → Type 0
+abbrev pub Flagged : ℕ → Port → Type 0
 Flagged n q = bit_and q.ssr 0x78 ≡ n
 
-sender_flags : (n : ℕ) → SenderClosed (Flagged n)
+pub sender_flags : (n : ℕ) → SenderClosed (Flagged n)
 sender_flags n =
     record {
       start = record {
@@ -144,7 +144,7 @@ sample_last now high half r c (pos j) =
     both_arms NotLast (ltb j r.format.«data») (Onward bit) _ (plain_last bit c)
     (both_arms NotLast (eqb j r.format.«data» && r.format.parity) (Onward checked) (Whole _) (plain_last checked c) tt)
 
-complete_rx : (p : Port) (r : Rx) → (complete_receive p r).rx ≡ p.rx
+pub complete_rx : (p : Port) (r : Rx) → (complete_receive p r).rx ≡ p.rx
 unfolding complete_receive
 complete_rx p r =
     both_arms (λ (q : Port). q.rx ≡ p.rx) (has p.ssr 0x40) _ _ refl (both_arms (λ (q : Port). q.rx ≡ p.rx) (eqb r.error 0) _ _ refl refl)

@@ -3,3 +3,4 @@ pub mod Ranges
 pub mod ReceiveErrors
 pub mod Edges
 pub mod Facts
+pub mod Causes

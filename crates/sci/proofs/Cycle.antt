@@ -9,19 +9,25 @@ use Prim.Native.Nat.compare
 use Rattle.branches.proofs.Branches.{both_arms}
 use Rattle.command.specs.declared.Source.{Source}
 use Rattle.command.specs.declared.Source.TheVariants.{System, Watch}
+use Rattle.shift.specs.declared.cause.Cause.{Cause}
+use Rattle.shift.specs.declared.cause.Cause.TheVariants.{NoWord}
+use Rattle.shift.specs.Cause.{followed_by}
 use Rattle.shift.specs.Receiver.{rx_due_on}
 use Rattle.port.specs.declared.Port.{Port}
 use Rattle.port.specs.Baud.{counted as counted_port, internal}
 use Rattle.port.specs.Clocked.{refresh_sync_clock}
 use Rattle.port.specs.Half.{process_basic, sync, half_step, halves, inside}
+use Rattle.port.specs.Cause.{half_cause, halves_cause}
+use Rattle.port.proofs.Causes.{none_followed}
 use Rattle.port.proofs.SenderKeeps.{SenderClosed, free_sender}
 use Rattle.port.proofs.ReceiverKeeps.{ReceiverClosed, free_receiver, refresh_keeps, basic_keeps, advance_keeps}
 use Rattle.sci.specs.declared.Baud.{Baud}
 use Rattle.sci.specs.declared.Sci.{Sci}
 use Rattle.sci.specs.Count.{Count, ticked, counted, ticks_in, halves_in, left_in, Counting}
 use Rattle.sci.specs.Cycle.{chosen, divider, total, advanced, with_remaining, reload, cycle, cycles, counts_half, halves_counted}
+use Rattle.sci.specs.Cause.{cycle_cause, cycles_cause}
 use Rattle.sci.specs.Quick.{counts, halves_passed, left_passed, on_edge, at_edge, edge_kept, quick, Simulates}
-use Rattle.sci.specs.Laws.{CyclesMoveHalfCount}
+use Rattle.sci.specs.Laws.{CyclesMoveHalfCount, CyclesTellHalves}
 use Rattle.sci.proofs.Count.{counting}
 
 -- ---- a half
@@ -145,6 +151,33 @@ unfolding CyclesMoveHalfCount cycles halves_counted
 cycles_move_half_count source zero s = omega arith
 cycles_move_half_count source (suc n) s = omega (arith, cycles_move_half_count source n (cycle source s), (one source s).half_count)
 
+-- ---- the cause
+half_cause_inside : (p : Port) → half_cause (inside p) ≡ half_cause p
+unfolding half_cause
+half_cause_inside p = refl
+
+halves_cause_inside : (k : ℕ) (p : Port) → halves_cause k (inside p) ≡ halves_cause k p
+unfolding halves_cause half_cause half_step
+halves_cause_inside zero p = refl
+halves_cause_inside (suc k) p = refl
+
+-- that of a cycle, and of the halves after it
+causes_more : (half : Bool) (m : ℕ) (p : Port)
+    → followed_by (cond half (half_cause (inside p)) NoWord) (halves_cause m (edge_kept half (halves (cond half 1 0) p))) ≡ halves_cause (cond half 1 0 + m) p
+unfolding halves halves_cause
+causes_more true m p =
+    ap (λ (c : Cause). followed_by c (halves_cause m (half_step p))) (half_cause_inside p) ∙ ap (λ (k : ℕ). halves_cause k p) (sym (one-add m))
+causes_more false m p =
+    none_followed (halves_cause m (inside p)) ∙ halves_cause_inside m p ∙ ap (λ (k : ℕ). halves_cause k p) (sym (zero-add m))
+
+pub cycles_tell_halves : CyclesTellHalves
+unfolding CyclesTellHalves cycles_cause halves_counted halves_cause
+cycles_tell_halves source zero s = refl
+cycles_tell_halves source (suc n) s =
+    let t = cycle source s in
+    ap (followed_by (cycle_cause source s)) (cycles_tell_halves source n t ∙ ap (halves_cause (halves_counted source n t)) (one source s).port)
+    ∙ causes_more (counts_half source s) (halves_counted source n t) s.port
+
 -- ---- the clocks
 advanced_none : (source : Source) (b : Baud) → b ≡ with_remaining (advanced source 0 b) b.remaining
 advanced_none System b = rw add-zero
@@ -202,6 +235,10 @@ numbers source n s h =
 pub halves_are : (source : Source) (n : ℕ) (s : Sci) → 0 < s.baud.remaining → halves_counted source n s ≡ halves_passed source n s.port s.baud
 unfolding CyclesMoveHalfCount
 halves_are source n s h = omega (arith, ap (λ (m : Count). m.halves) (numbers source n s h), cycles_move_half_count source n s)
+
+pub causes_are : (source : Source) (n : ℕ) (s : Sci) → 0 < s.baud.remaining → cycles_cause source n s ≡ halves_cause (halves_passed source n s.port s.baud) s.port
+unfolding CyclesTellHalves
+causes_are source n s h = cycles_tell_halves source n s ∙ ap (λ (k : ℕ). halves_cause k s.port) (halves_are source n s h)
 
 pub simulates : Simulates
 unfolding Simulates quick at_edge

@@ -15,14 +15,18 @@ use Rattle.port.specs.Baud.{internal}
 use Rattle.port.specs.Half.{halves, inside, uncounted}
 use Rattle.port.specs.Valid.{limit}
 use Rattle.port.specs.Calls.{Answer as PortAnswer, done as port_done, refused as port_refused, refuse as port_refuse, called as port_called}
+use Rattle.port.specs.Cause.{halves_cause, call_cause as port_call_cause}
 use Rattle.port.proofs.CallLaws.{valid_half}
+use Rattle.shift.specs.declared.cause.Cause.{Cause}
+use Rattle.shift.specs.declared.cause.Cause.TheVariants.{NoWord}
+use Rattle.sci.specs.Cause.{cycles_cause}
 use Rattle.sci.specs.declared.Baud.{Baud}
 use Rattle.sci.specs.declared.Sci.{Sci}
 use Rattle.sci.specs.Cycle.{total, cycle, cycles, counts_half, halves_counted}
 use Rattle.sci.specs.Quick.{halves_passed, at_edge, edge_kept, baud_passed, quick, Simulates}
 use Rattle.sci.specs.Calls.{most, valid, Answer, done, refused, refuse, called}
 use Rattle.sci.specs.Laws.{CyclesMoveHalfCount}
-use Rattle.sci.proofs.Cycle.{cycles_move_half_count, halves_are, simulates}
+use Rattle.sci.proofs.Cycle.{cycles_move_half_count, halves_are, causes_are, simulates}
 use Rattle.sci.proofs.Steps.{remaining_some, port_passes}
 
 counted_few : (source : Source) (n : ℕ) (s : Sci) → halves_counted source n s ≤ n
@@ -101,6 +105,12 @@ module _ (source : Source) (n : ℕ) (s : Sci) (v : valid s ≡ true) where
       (by_cond Is (internal p) _ (port_done 0 (uncounted k p))
       (λ i. by_cond Is (leb (p.half + k) limit) _ (port_refuse 4 p) (λ e. rw e at_once) (λ e. rw e))
       (λ i. let f : p.half + k ≤ limit = omega (arith, none_stopped i) in rw (still i, le-leb (p.half + k) limit f) at_once))
+
+  -- and the cause
+  pub waits_cause : port_call_cause (Wait k) p ≡ cycles_cause source n s
+  unfolding port_call_cause halves_cause
+  waits_cause =
+      by_cond (λ (c : Cause). c ≡ halves_cause k p) (internal p) _ NoWord (λ i. refl) (λ i. rw (none_stopped i)) ∙ sym (causes_are source n s (remaining_some s v))
 
   -- the tests in order, and then what the port answers
   pub called_waits : called (Cycles source n) s

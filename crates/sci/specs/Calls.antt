@@ -9,6 +9,7 @@ use Rattle.command.specs.declared.Command.TheVariants.{OnPort, Cycles}
 use Rattle.command.specs.Command.{in_range}
 use Rattle.frame.specs.Frame.{has}
 use Rattle.port.specs.declared.Port.{Port}
+use Rattle.port.specs.declared.Outcome.{Outcome}
 use Rattle.port.specs.Baud.{internal}
 use Rattle.port.specs.Registers.{takes_writes}
 use Rattle.port.specs.Power.{resets, fresh as fresh_port}
@@ -93,8 +94,8 @@ number (OfPort refusal) = port_number refusal
 number Total = 10
 
 -- what a call on a state in its place answers, and that state after it
-abbrev pub answered : Result ℕ Refusal → Sci → Answer
-answered (Ok v) s = done v s
+abbrev pub answered : Result Outcome Refusal → Sci → Answer
+answered (Ok r) s = done r.value s
 answered (Err refusal) s = refuse (number refusal) s
 
 -- a refusal leaves the state as it was

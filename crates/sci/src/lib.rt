@@ -2,16 +2,18 @@
 // clocks are here the counts of their cycles, which a script moves.
 #![tactic(auto)]
 
-ghost use Rattle.std.specs.Prelude.{◌≡◌, ℕ, ◌+◌, ◌<◌, ◌≤◌, true, Ok};
+ghost use Rattle.std.specs.Prelude.{◌≡◌, ℕ, ◌+◌, ◌<◌, ◌≤◌, true, IfOk};
 ghost use Rattle.command.specs.Command.{in_range};
 ghost use Rattle.sci.specs.Cycle.{chosen, divider, total, advanced};
 ghost use Rattle.sci.specs.Quick.{halves_passed, left_passed};
 ghost use Rattle.sci.specs.Private.Steps.{halves_by, left_by};
 ghost use Rattle.sci.specs.Calls.{fresh, baud_valid, valid, remaining_after, direct, number, answer};
+ghost use Rattle.sci.specs.Cause.{call_cause};
 
 use command::{Call, Command, Source};
 use counter::Counter;
-use port::Port;
+use port::{Outcome, Port};
+use shift::Cause;
 
 mod counter;
 mod tested;
@@ -45,10 +47,12 @@ pub enum Refusal {
     Total,
 }
 
-// What an accepted direct call hands back: the value read, else 0, and the state after it. A refused one leaves the state as it was.
+// What an accepted direct call hands back: the value read, else 0, the cause of the last word that it completed, and the state after it. A refused one
+// leaves the state as it was.
 #[derive(Clone, Copy)]
 pub struct Called {
     pub value: u8,
+    pub cause: Cause,
     pub sci: Sci,
 }
 
@@ -192,12 +196,14 @@ impl Sci {
     // The direct call of a command, for any state.
     #[tactic(auto, unfolding(crate::specs::Calls::direct))]
     pub fn direct(self, command: Command) -> Result<Called, Refusal>
-        ensures { answer self result ≡ direct command self }
+        ensures answer { answer self result ≡ direct command self }
+        ensures cause { IfOk result (λ called. called.cause ≡ call_cause command self) }
     {
         let mut tested = Tested::try_from(self)?;
-        let value = tested.call(command)?;
+        let Outcome { value, cause } = tested.call(command)?;
         Ok(Called {
             value,
+            cause,
             sci: tested.sci,
         })
     }

@@ -11,6 +11,10 @@ ghost use Rattle.shift.specs.Private.Ready.{falling, starting};
 
 use frame::Format;
 
+mod cause;
+
+pub use cause::{Cause, Errors};
+
 #[derive(Clone, Copy, Debug, PartialEq, Eq)]
 pub struct Character {
     pub format: Format,

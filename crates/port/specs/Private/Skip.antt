@@ -14,6 +14,10 @@ use Rattle.port.specs.Receiver.{arms}
 use Rattle.port.specs.Clocked.{sync_needed, with_clock, refresh_sync_clock, sync_edge}
 use Rattle.port.specs.Half.{process_basic, clocked_edge, halves}
 use Rattle.shift.specs.declared.Rx.{Rx}
+use Rattle.shift.specs.declared.cause.Cause.{Cause}
+use Rattle.shift.specs.declared.cause.Cause.TheVariants.{NoWord}
+use Rattle.shift.specs.Cause.{followed_by}
+use Rattle.port.specs.Cause.{basic_cause, edge_cause, clocked_cause, halves_cause}
 
 -- a word begins at the next half, whatever is due
 abbrev pub arms_on : Option Rx → Port → Bool
@@ -51,6 +55,14 @@ edge_of (Some level) p = sync_edge level p
 abbrev pub edge_work : Option Bool → Port → Port
 edge_work pin p = refresh_sync_clock (edge_of pin (process_basic p))
 
+-- and the causes of these
+abbrev pub edge_of_cause : Option Bool → Port → Cause
+edge_of_cause None p = clocked_cause p
+edge_of_cause (Some level) p = edge_cause level p
+
+abbrev pub work_cause : Option Bool → Port → Cause
+work_cause pin p = followed_by (basic_cause p) (edge_of_cause pin (process_basic p))
+
 -- one edge of the pin, or any number of the internal clock's
 abbrev pub ClockGives : Option Bool → ℕ → Port → Type 0
 ClockGives None n p = external p ≡ false
@@ -65,3 +77,8 @@ abbrev pub edges : Option Bool → ℕ → Port → Port
 edges None n p = halves n p
 edges (Some level) zero p = p
 edges (Some level) (suc n) p = edge_work (Some level) (counted p)
+
+abbrev pub edges_cause : Option Bool → ℕ → Port → Cause
+edges_cause None n p = halves_cause n p
+edges_cause (Some level) zero p = NoWord
+edges_cause (Some level) (suc n) p = work_cause (Some level) (counted p)

@@ -5,6 +5,6 @@ use Rattle.port.specs.Input.{input_pins}
 use Rattle.port.proofs.CallLaws.{pins_set}
 use Rattle.port.proofs.Port.input_pins.Goals as goal
 
-pub returns : goal.returns
+pub returns-clause-value : goal.returns-clause-value
 unfolding called input_pins
-returns c = search (pins_set, cond_t, flag_t, rules) depth 10
+returns-clause-value c = search (pins_set, cond_t, flag_t, rules) depth 10
