@@ -12,10 +12,20 @@ extern "C" {
 
 /* How many numbers a state has; how many bytes a record of the log has. */
 #define SCI3_STATE 56
-#define SCI3_RECORD 5
+#define SCI3_RECORD 6
 
 /* An answer of 256 or more is a refusal: 256 plus its number. (sci3_play answers the number itself.) */
 #define SCI3_REFUSED 256
+
+/* The causes: no word was completed; RDR took one, without error or with these. A lost word has SCI3_OVERRUN more. */
+enum sci3_cause {
+    SCI3_NO_WORD = 0,
+    SCI3_TAKEN = 1,
+    SCI3_PARITY = 2,
+    SCI3_FRAMING = 3,
+    SCI3_BOTH = 4,
+    SCI3_OVERRUN = 4
+};
 
 /* The places of a state. A flag is 0 or 1; a place that is not in use is 0. docs/C.md has their ranges. */
 enum sci3_place {
@@ -57,8 +67,10 @@ enum sci3_place {
 uint64_t sci3_fresh(uint64_t *state, size_t length);
 
 /* Makes the direct call of a kind, 1 to 9, with its operands (an operand that the kind does not have is not looked at):
- * the value read, else 0, and the array holds the state after the call; or a refusal, and the array is as it was. */
-uint64_t sci3_call(uint64_t *state, size_t length, uint32_t kind, uint32_t a, uint32_t b);
+ * the value read, else 0, and the array holds the state after the call; or a refusal, and the array is as it was. *cause
+ * is the cause of the last word that was completed in the call, 1 to 8, else 0: SCI3_OVERRUN is added where the word was
+ * lost. */
+uint64_t sci3_call(uint64_t *state, size_t length, uint32_t kind, uint32_t a, uint32_t b, uint64_t *cause);
 
 /* The pins: bits 0 and 1 the clock pin (0 not the port's, 1 floating, 2 low, 3 high), bits 2 and 3 the transmit level
  * (0, 1, or 2 when not driven), bit 4 whether reception is enabled; or refusal 8. */

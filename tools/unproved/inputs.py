@@ -2,7 +2,7 @@
 import random
 
 from program import ask
-from questions import FORMAT, FRESH, FUNCTIONS, LOG, MOST, PLACE, PLACES, Question, answered, commands, encoded
+from questions import FORMAT, FRESH, FUNCTIONS, LOG, MOST, PLACE, PLACES, RECORD, Question, answered, commands, encoded
 
 REGISTERS = SPCR, SMR, BRR, SCR, TDR, SSR, RDR, SEMR, IRCR = 0xFF91, 0xFF98, 0xFF99, 0xFF9A, 0xFF9B, 0xFF9C, 0xFF9D, 0xFFA6, 0xFFA7
 LIMIT, TOTAL = 4_000_000_000, 281_474_976_710_656
@@ -280,8 +280,8 @@ def fewer_calls(q, but):
         for at in range(len(whole)):
             kept = body(whole[:at] + whole[at + size:]) + rest
             yield but(body=kept)
-            if q.log >= 5 * size:
-                yield but(body=kept, log=q.log - 5 * size)
+            if q.log >= RECORD * size:
+                yield but(body=kept, log=q.log - RECORD * size)
     for i in range(len(whole) - 1):
         if whole[i][0] == whole[i + 1][0] == 3:
             yield but(body=body([*whole[:i], (3, whole[i][1] + whole[i + 1][1], 0), *whole[i + 2:]]) + rest)

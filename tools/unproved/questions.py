@@ -40,7 +40,7 @@ ARRAY = [*PLACES, "place 56"]  # of an array that is one number too long
 READ = ("fault", "value", "next")
 RATE = ("clock", "rate", "tolerance")
 FUNCTIONS = {
-    "record_line": (5, ("kind", "answer", "ssr", "level", "interrupt"), "text"),
+    "record_line": (5, ("kind", "answer", "ssr", "level", "interrupt", "cause"), "text"),
     "end_line": (6, ("length",), "text"),
     "refused_line": (7, ("number", "offset"), "text"),
     "hex_digit": (8, ("n",), ("digit",)),
@@ -92,6 +92,7 @@ FUNCTIONS = {
 }
 OPERANDS = {1: 1, 2: 2, 3: 1, 4: 1, 5: 2, 6: 1, 8: 1, 9: 1}
 LOG = 240
+RECORD = 6  # a record's bytes
 
 
 @dataclasses.dataclass(frozen=True)
@@ -215,9 +216,9 @@ def commands(body):
     return found, b""
 
 
-def record(five):
-    kind, answer, ssr, level, interrupt = five
-    return f"{kind:X} {answer:02X} {ssr:02X} {'01-'[level] if level < 3 else level} {interrupt}"
+def record(six):
+    kind, answer, ssr, level, interrupt, cause = six
+    return f"{kind:X} {answer:02X} {ssr:02X} {'01-'[level] if level < 3 else level} {interrupt} {cause}"
 
 
 def answered(question, answer):
@@ -237,9 +238,10 @@ def answered(question, answer):
     if question.form == "sci3_fresh":
         return [("its answer", numbers[0]), *zip(ARRAY, numbers[1:])]
     calls = len(numbers) - question.length - 2
-    said = [f"refused {n - 256}" if n >= 256 else f"{n:02X}" for n in numbers[:calls]]
+    said = [f"refused {n - 256}" if n >= 256 else f"{n:02X}" for n in numbers[:calls:2]]
     return [
         *((f"answer {i + 1}", s) for i, s in enumerate(said)),
+        *((f"cause {i + 1}", n) for i, n in enumerate(numbers[1:calls:2])),
         ("sci3_pins", numbers[calls]),
         ("sci3_interrupt", numbers[calls + 1]),
         *zip(ARRAY, numbers[calls + 2:]),
@@ -250,9 +252,9 @@ def of_script(question, answer):
     numbers = struct.unpack_from(f"<{4 + question.length}Q", answer)
     log = answer[8 * len(numbers):]
     end, at, used, length = numbers[:4]
-    whole = min(used, len(log)) // 5
+    whole = min(used, len(log)) // RECORD
     return [
-        *((f"record {i + 1}", record(log[5 * i:5 * i + 5])) for i in range(whole)),
+        *((f"record {i + 1}", record(log[RECORD * i:RECORD * (i + 1)])) for i in range(whole)),
         ("its end", f"refused {end} at {at}" if end else "end" if at == 0 else f"end at {at}"),
         ("used", used),
         ("its length", length),

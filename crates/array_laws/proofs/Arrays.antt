@@ -19,6 +19,7 @@ use Rattle.port.specs.declared.Port.{Port}
 use Rattle.port_laws.specs.Ranges.{InRange}
 use Rattle.sci.specs.declared.Sci.{Sci}
 use Rattle.sci.specs.Calls.{Answer, done, refused, after, called, direct, fresh, refuse, valid}
+use Rattle.sci.specs.Cause.{call_cause}
 use Rattle.machine.specs.Machine.{Run, ended, play_items}
 use Rattle.player.specs.Play.{Progress, room, items, started, act, play}
 use Rattle.recovery.specs.Layers.{CarriesOver, state_after}
@@ -29,7 +30,7 @@ use Rattle.sci_laws.proofs.Laws.{answers_a_byte, refused_stands}
 use Rattle.script_laws.specs.Runs.{Action, makes_call, plays_script, leaves, commands_played, sci_after}
 use Rattle.script_laws.proofs.Runs.{runs_are_calls, eight_at_entry_only, actions_are_calls, scripts_recover}
 use Rattle.capi.specs.State.{encode, state_max}
-use Rattle.capi.specs.Exports.{Lent, lent, refusal, call_left, call_on, call, pins_on, pins_answer, interrupt_on, interrupt_answer, fresh_state, Playing, playing, run_left, play_on, played}
+use Rattle.capi.specs.Exports.{Calling, lent, calling, refusal, call_left, call_on, call, pins_on, pins_answer, interrupt_on, interrupt_answer, fresh_state, Playing, playing, run_left, play_on, played}
 use Rattle.capi.specs.Round.{SciTyped}
 use Rattle.capi.proofs.Round.{round_trip}
 use Rattle.array_laws.specs.Typed.{DecodedTyped, FreshTyped, KeepsTyped}
@@ -61,12 +62,12 @@ abbrev Left : List ℕ → Sci → List ℕ → Sci → Type 0
 Left array s x t = ((x ≡ array) × (t ≡ s)) ⊎ (x ≡ encode t)
 
 -- the direct call tests 8 itself, so it may come before the test of the kind
-late_test : (c : Command) (known : Bool) (array : List ℕ) (x : Lent) (s : Sci)
-    → cond known (call_left array (direct c s)) (cond (valid s) x (lent (refusal 8) array)) ≡ cond (valid s) (cond known (call_left array (direct c s)) x) (lent (refusal 8) array)
+late_test : (c : Command) (known : Bool) (array : List ℕ) (x : Calling) (s : Sci)
+    → cond known (call_left array (call_cause c s) (direct c s)) (cond (valid s) x (calling (refusal 8) 0 array)) ≡ cond (valid s) (cond known (call_left array (call_cause c s) (direct c s)) x) (calling (refusal 8) 0 array)
 unfolding direct
 late_test c known array x s = go known (valid s)
   where
-    go : (k v : Bool) → let a = call_left array (cond v (called c s) (refuse 8 s)) in cond k a (cond v x (lent (refusal 8) array)) ≡ cond v (cond k a x) (lent (refusal 8) array)
+    go : (k v : Bool) → let a = call_left array (call_cause c s) (cond v (called c s) (refuse 8 s)) in cond k a (cond v x (calling (refusal 8) 0 array)) ≡ cond v (cond k a x) (calling (refusal 8) 0 array)
     go true true = refl
     go true false = refl
     go false true = refl
@@ -78,9 +79,9 @@ module _ (array : List ℕ) (s : Sci) (d : Holds array s) where
   in_range = typed_in_range s.port (decoded_typed array s d).port
 
   on_call : (k a b : ℕ) → call k a b array
-      ≡ cond (leb 1 k && leb k 9) (call_left array (direct (command_of k a b) s)) (cond (valid s) (lent (refusal 7) array) (lent (refusal 8) array))
+      ≡ cond (leb 1 k && leb k 9) (call_left array (call_cause (command_of k a b) s) (direct (command_of k a b) s)) (cond (valid s) (calling (refusal 7) 0 array) (calling (refusal 8) 0 array))
   unfolding call
-  on_call k a b = ap (call_on k a b array) d ∙ sym (late_test (command_of k a b) (leb 1 k && leb k 9) array (lent (refusal 7) array) s)
+  on_call k a b = ap (call_on k a b array) d ∙ sym (late_test (command_of k a b) (leb 1 k && leb k 9) array (calling (refusal 7) 0 array) s)
 
   on_play : (script log : List ℕ) → played array script log ≡ run_left array (play s script log)
   unfolding played
@@ -95,7 +96,7 @@ module _ (array : List ℕ) (s : Sci) (d : Holds array s) where
       go true e = absurd (eight_at_entry_only s script log in_range e z)
       go false e = ap (λ (b : Bool). (cond b (play_items room act (started s) (items script) log) (ended 8 0 (started s) log)).state.sci) e
 
-  answer_left : (c : Command) (r : Answer) → direct c s ≡ r → Left array s (call_left array r).state (after r)
+  answer_left : (c : Command) (r : Answer) → direct c s ≡ r → Left array s (call_left array (call_cause c s) r).state (after r)
   unfolding RefusedStands
   answer_left c (done v t) e = inr refl
   answer_left c (refused n offset t) e = inl (refl, (refused_stands c s t n offset e).0)
@@ -103,17 +104,17 @@ module _ (array : List ℕ) (s : Sci) (d : Holds array s) where
   left : (e : Exported) → Left array s (array_left e array) (state_after leaves s (action_of e))
   unfolding state_after
   left (sci3_call k a b) =
-      subst (λ (l : Lent). Left array s l.state (state_after leaves s (action_of (sci3_call k a b)))) (sym (on_call k a b)) (go (leb 1 k && leb k 9))
+      subst (λ (l : Calling). Left array s l.state (state_after leaves s (action_of (sci3_call k a b)))) (sym (on_call k a b)) (go (leb 1 k && leb k 9))
     where
       c : Command
       c = command_of k a b
 
-      unknown : Lent
-      unknown = cond (valid s) (lent (refusal 7) array) (lent (refusal 8) array)
+      unknown : Calling
+      unknown = cond (valid s) (calling (refusal 7) 0 array) (calling (refusal 8) 0 array)
 
-      go : (known : Bool) → Left array s (cond known (call_left array (direct c s)) unknown).state (state_after leaves s (cond known (makes_call c ∷ []) []))
+      go : (known : Bool) → Left array s (cond known (call_left array (call_cause c s) (direct c s)) unknown).state (state_after leaves s (cond known (makes_call c ∷ []) []))
       go true = answer_left c (direct c s) refl
-      go false = both_arms (λ (l : Lent). Left array s l.state s) (valid s) (lent (refusal 7) array) (lent (refusal 8) array) (inl (refl, refl)) (inl (refl, refl))
+      go false = both_arms (λ (l : Calling). Left array s l.state s) (valid s) (calling (refusal 7) 0 array) (calling (refusal 8) 0 array) (inl (refl, refl)) (inl (refl, refl))
   left (sci3_play script log) =
       let r : Run Progress = play s script log in
       subst (λ (l : Playing). Left array s l.state r.state.sci) (sym (on_play script log))
@@ -124,7 +125,7 @@ module _ (array : List ℕ) (s : Sci) (d : Holds array s) where
   answers e =
       record {
         of_call = λ k a b. on_call k a b
-            ∙ ap (λ (v : Bool). cond (leb 1 k && leb k 9) (call_left array (direct (command_of k a b) s)) (cond v (lent (refusal 7) array) (lent (refusal 8) array))) e;
+            ∙ ap (λ (v : Bool). cond (leb 1 k && leb k 9) (call_left array (call_cause (command_of k a b) s) (direct (command_of k a b) s)) (cond v (calling (refusal 7) 0 array) (calling (refusal 8) 0 array))) e;
         of_read = λ c v t h. answers_a_byte c s t v in_range h;
         of_play = λ script log. let r : Run Progress = play s script log in
             on_play script log
@@ -141,7 +142,7 @@ pub failing_refused : FailingRefused
 unfolding FailingRefused call play
 failing_refused array s d e = (
   λ k a b. ap (call_on k a b array) d
-      ∙ ap (λ (v : Bool). cond v (cond (leb 1 k && leb k 9) (call_left array (direct (command_of k a b) s)) (lent (refusal 7) array)) (lent (refusal 8) array)) e,
+      ∙ ap (λ (v : Bool). cond v (cond (leb 1 k && leb k 9) (call_left array (call_cause (command_of k a b) s) (direct (command_of k a b) s)) (calling (refusal 7) 0 array)) (calling (refusal 8) 0 array)) e,
   λ script log. on_play array s d script log ∙ ap (λ (v : Bool). run_left array (cond v (play_items room act (started s) (items script) log) (ended 8 0 (started s) log))) e,
 )
 

@@ -14,13 +14,14 @@ use Rattle.port.specs.Power.{fresh as fresh_port}
 use Rattle.pins.specs.Pins.{pins, interrupt}
 use Rattle.sci.specs.declared.Sci.{Sci}
 use Rattle.sci.specs.Calls.{done, direct, fresh, valid}
+use Rattle.sci.specs.Cause.{call_cause}
 use Rattle.player.specs.Play.{play}
 use Rattle.recovery.specs.Line.{LineItem}
 use Rattle.recovery.specs.Layers.{Carried, state_after}
 use Rattle.recovery.specs.Recovery.{HistoryEnd, Rest, Words, rest_end, start, run_wired}
 use Rattle.script_laws.specs.Runs.{Action, makes_call, plays_script, leaves, counts_as, sci_after, all_calls}
 use Rattle.capi.specs.State.{decode, encode, state_max}
-use Rattle.capi.specs.Exports.{lent, refusal, call_left, call, pins_number, pins_answer, interrupt_answer, fresh_state, playing, played}
+use Rattle.capi.specs.Exports.{calling, refusal, call_left, call, pins_number, pins_answer, interrupt_answer, fresh_state, playing, played}
 
 -- ---- exported calls
 -- the two that write the array: `sci3_call` with kind and operands, `sci3_play` with a script and what the lent log holds
@@ -80,7 +81,7 @@ ArraysAreCalls =
 -- ---- what is answered
 -- by each export on an array that holds the state s: what a direct call on s, a run on s, the pins of its port and its interrupt request are; never 8
 pub record Answers (array : List ℕ) (s : Sci) : Type 0 where
-  pub of_call : (k a b : ℕ) → call k a b array ≡ cond (leb 1 k && leb k 9) (call_left array (direct (command_of k a b) s)) (lent (refusal 7) array)
+  pub of_call : (k a b : ℕ) → call k a b array ≡ cond (leb 1 k && leb k 9) (call_left array (call_cause (command_of k a b) s) (direct (command_of k a b) s)) (calling (refusal 7) 0 array)
   -- below 256, so that no value is taken for a refusal
   pub of_read : (c : Command) (v : ℕ) (t : Sci) → direct c s ≡ done v t → v < 256
   pub of_play : (script log : List ℕ) → let r = play s script log in played array script log ≡ playing r.number (r.offset ∷ r.used ∷ r.state.length ∷ []) (encode r.state.sci) r.log
@@ -94,7 +95,7 @@ HoldingAnswers = (array : List ℕ) (s : Sci) → Holds array s → valid s ≡ 
 unfoldable pub FailingRefused : Type 0
 FailingRefused =
     (array : List ℕ) (s : Sci) → Holds array s → valid s ≡ false
-    → ((k a b : ℕ) → call k a b array ≡ lent (refusal 8) array) × ((script log : List ℕ) → played array script log ≡ playing 8 (0 ∷ 0 ∷ 0 ∷ []) array log)
+    → ((k a b : ℕ) → call k a b array ≡ calling (refusal 8) 0 array) × ((script log : List ℕ) → played array script log ≡ playing 8 (0 ∷ 0 ∷ 0 ∷ []) array log)
 
 -- from `sci3_fresh` on the first of the two always
 unfoldable pub ArraysAnswer : Type 0

@@ -1,15 +1,21 @@
 -- What each exported function answers, and what it leaves in the lent array.
 -- Of all but sci3_play and sci3_rate: an answer below 256 is that of an accepted call; 256 and document 01's number is a refusal, and the array is then as it was.
 -- Assumes nothing.
-use Rattle.std.specs.Prelude.{ℕ, ◌+◌, ◌*◌, cond, ◌&&◌, List, [], ◌∷◌, eqb, leb, length, Option, None, Some}
+use Rattle.std.specs.Prelude.{Result, Ok, Err, ℕ, ◌+◌, ◌*◌, cond, ◌&&◌, List, [], ◌∷◌, eqb, leb, length, Option, None, Some}
 use Rattle.std.specs.Int.{w64, cast_unsigned}
 use Rattle.frame.specs.Frame.{one_if}
 use Rattle.pins.specs.declared.Drive.{Drive}
 use Rattle.pins.specs.declared.Drive.TheVariants.{Floating, Low, High}
 use Rattle.pins.specs.declared.Pins.{Pins}
 use Rattle.command.specs.Command.{command_of}
+use Rattle.shift.specs.declared.cause.Cause.{Cause}
+use Rattle.shift.specs.declared.cause.Cause.TheVariants.{NoWord}
+use Rattle.shift.specs.Cause.{cause_number}
+use Rattle.port.specs.declared.Outcome.{Outcome}
 use Rattle.pins.specs.Pins.{pins, interrupt, level_number}
 use Rattle.sci.specs.declared.Sci.{Sci}
+use Rattle.sci.specs.declared.Refusal.{Refusal}
+use Rattle.sci.specs.Cause.{call_cause}
 use Rattle.sci.specs.Calls.{Answer, done, refused, fresh, valid, direct}
 use Rattle.machine.specs.Machine.{Run}
 use Rattle.player.specs.Play.{Progress, play}
@@ -28,18 +34,34 @@ abbrev pub refusal : ℕ → ℕ
 refusal n = 256 + n
 
 -- ---- sci3_call
--- the value read, or 0, and the state after the call
-abbrev pub call_left : List ℕ → Answer → Lent
-call_left s (done v q) = lent v (encode q)
-call_left s (refused n offset q) = lent (refusal n) s
+-- an answer, the number of its cause, and the array after it
+pub record Calling : Type 0 where
+  pub answer : ℕ
+  pub cause : ℕ
+  pub state : List ℕ
+
+abbrev pub calling : ℕ → ℕ → List ℕ → Calling
+calling n cause s = record { answer = n; cause = cause; state = s }
+
+-- the value read, or 0, the cause, and the state after the call; a refusal has cause 0
+abbrev pub call_left : List ℕ → Cause → Answer → Calling
+call_left s cause (done v q) = calling v (cause_number cause) (encode q)
+call_left s cause (refused n offset q) = calling (refusal n) 0 s
+
+-- of the code's answer
+abbrev pub cause_of : Result Outcome Refusal → Cause
+cause_of (Ok r) = r.cause
+cause_of (Err refusal) = NoWord
 
 -- "Direct calls test 8" first, so it comes before the test of the kind
-abbrev pub call_on : ℕ → ℕ → ℕ → List ℕ → Option Sci → Lent
-call_on kind a b s None = lent (refusal 8) s
+abbrev pub call_on : ℕ → ℕ → ℕ → List ℕ → Option Sci → Calling
+call_on kind a b s None = calling (refusal 8) 0 s
 call_on kind a b s (Some p) =
-    cond (valid p) (cond (leb 1 kind && leb kind 9) (call_left s (direct (command_of kind a b) p)) (lent (refusal 7) s)) (lent (refusal 8) s)
+    cond (valid p)
+    (cond (leb 1 kind && leb kind 9) (call_left s (call_cause (command_of kind a b) p) (direct (command_of kind a b) p)) (calling (refusal 7) 0 s))
+    (calling (refusal 8) 0 s)
 
-unfoldable pub call : ℕ → ℕ → ℕ → List ℕ → Lent
+unfoldable pub call : ℕ → ℕ → ℕ → List ℕ → Calling
 call kind a b s = call_on kind a b s (decode s)
 
 -- ---- sci3_pins

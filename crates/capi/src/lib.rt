@@ -3,7 +3,7 @@
 #![tactic(auto)]
 
 ghost use Rattle.std.specs.Prelude.{◌≡◌, true, cond, ◌+◌, ◌≤◌, ◌++◌, eqb, length, take, OnSome};
-ghost use Rattle.capi.specs.Exports.{lent, call_left, call, pins_number, pins_answer, interrupt_answer, fresh_state, playing, played, rating, rated};
+ghost use Rattle.capi.specs.Exports.{lent, calling, call_left, cause_of, call, pins_number, pins_answer, interrupt_answer, fresh_state, playing, played, rating, rated};
 ghost use Rattle.capi.specs.State.{tag, number_list, format_list, tx_tag, tx_character, tx_cell, tx_loaded, tx_list, position_number, rx_list, register_list, power_list, line_list, port_list, baud_list, encode, format_max, character_max, tx_max, word_max, rx_max, port_max, baud_max, state_max, fits, number_in, format_in, character_in, tx_of, tx_in, position_of, word_in, rx_in, port_of, port_in, baud_in, sci_in, decode};
 ghost use Rattle.player.specs.Play.{end_number};
 ghost use Rattle.sci.specs.Calls.{answered};
@@ -12,7 +12,7 @@ use command::Kind;
 use frame::Format;
 use pins::Pins;
 use player::{Reason, Refused};
-use port::Port;
+use port::{Outcome, Port};
 use sci::{Baud, Refusal, Sci, Tested};
 use script::Fault;
 use shift::{Character, Rx, Tx};
@@ -546,26 +546,31 @@ const UNKNOWN: u64 = REFUSED + Fault::Kind as u64;
 
 const NO_STATE: u64 = REFUSED + port::Refusal::State as u64;
 
-// The array after a call, and the call's answer: C is told numbers.
-fn call_left(s: &mut [u64], sci: Sci, value: Result<u8, Refusal>) -> u64
+// The array after a call, and the call's cause and answer: C is told numbers.
+fn call_left(s: &mut [u64], cause: &mut u64, sci: Sci, outcome: Result<Outcome, Refusal>) -> u64
     requires { length s.old ≡ length state_max }
-    ensures { lent result s.new ≡ call_left s.old (answered value sci) }
+    ensures { calling result cause.new s.new ≡ call_left s.old (cause_of outcome) (answered outcome sci) }
 {
-    match value {
-        Ok(value) => {
+    match outcome {
+        Ok(outcome) => {
             store(s, sci);
-            u64::from(value)
+            *cause = u64::from(u8::from(outcome.cause));
+            u64::from(outcome.value)
         }
-        Err(refusal) => REFUSED + u64::from(u8::from(refusal)),
+        Err(refusal) => {
+            *cause = 0;
+            REFUSED + u64::from(u8::from(refusal))
+        }
     }
 }
 
-// Makes the direct call of a kind on the state in the array. C has no `Kind`: it gives a number. The state is changed in its place, so that it is not copied
-// once more.
+// Makes the direct call of a kind on the state in the array, and tells its cause. C has no `Kind`: it gives a number. The state is changed in its place, so
+// that it is not copied once more.
 #[tactic(auto, unfolding(crate::specs::Exports::call))]
-pub fn sci3_call(state: &mut [u64], kind: u32, a: u32, b: u32) -> u64
-    ensures { lent result state.new ≡ call kind a b state.old }
+pub fn sci3_call(state: &mut [u64], kind: u32, a: u32, b: u32, cause: &mut u64) -> u64
+    ensures { calling result cause.new state.new ≡ call kind a b state.old }
 {
+    *cause = 0;
     let Some(sci) = decode(state) else {
         return NO_STATE;
     };
@@ -575,8 +580,8 @@ pub fn sci3_call(state: &mut [u64], kind: u32, a: u32, b: u32) -> u64
     let Ok(kind) = Kind::try_from(kind) else {
         return UNKNOWN;
     };
-    let value = tested.call(kind.command(a, b));
-    call_left(state, tested.sci, value)
+    let outcome = tested.call(kind.command(a, b));
+    call_left(state, cause, tested.sci, outcome)
 }
 
 // C is told the pins as one number.

@@ -3,14 +3,14 @@
 #![tactic(auto)]
 
 ghost use Rattle.std.specs.Prelude.{◌≡◌};
-ghost use Rattle.capi.specs.Exports.{lent, call, pins_answer, interrupt_answer, fresh_state, playing, played, rating, rated};
+ghost use Rattle.capi.specs.Exports.{lent, calling, call, pins_answer, interrupt_answer, fresh_state, playing, played, rating, rated};
 
-// Makes the direct call of a kind on the port in the array.
+// Makes the direct call of a kind on the port in the array, and tells its cause.
 #[unsafe(no_mangle)]
-pub extern "C" fn sci3_call(state: &mut [u64], kind: u32, a: u32, b: u32) -> u64
-    ensures { lent result state.new ≡ call kind a b state.old }
+pub extern "C" fn sci3_call(state: &mut [u64], kind: u32, a: u32, b: u32, cause: &mut u64) -> u64
+    ensures { calling result cause.new state.new ≡ call kind a b state.old }
 {
-    capi::sci3_call(state, kind, a, b)
+    capi::sci3_call(state, kind, a, b, cause)
 }
 
 // The pins of the port in the array.

@@ -12,10 +12,13 @@ use Rattle.branches.proofs.Branches.{cond_true}
 use Rattle.frame.proofs.Laws.{from_bool_is}
 use Rattle.command.specs.declared.Command.{Command}
 use Rattle.command.specs.Command.{kind}
+use Rattle.shift.specs.declared.cause.Cause.{Cause}
+use Rattle.shift.specs.Cause.{cause_number}
 use Rattle.port.specs.declared.Port.{Port}
 use Rattle.pins.specs.declared.Pins.{Pins}
 use Rattle.sci.specs.declared.Sci.{Sci}
 use Rattle.sci.specs.Calls.{Answer, done, refused, valid, called, direct, edges}
+use Rattle.sci.specs.Cause.{call_cause}
 use Rattle.pins.specs.Pins.{pins, level_number, interrupt}
 use Rattle.sci.proofs.Laws.{refused_not_0, edges_by_half_count}
 use Rattle.script.specs.declared.Fault.{Fault}
@@ -35,10 +38,11 @@ use Rattle.player.specs.Private.Step.{stepped, port_step, play_on}
 
 -- ---- one command
 
-pub record_made : (c : Command) (v : ℕ) (p : Port) (x : Pins) (k l i : ℕ) (b : Bool) →
-    k ≡ kind c → x ≡ pins p → l ≡ level_number x.transmit → b ≡ interrupt p → i ≡ from_bool b → k ∷ v ∷ p.ssr ∷ l ∷ i ∷ [] ≡ record_of c v p
+pub record_made : (c : Command) (v : ℕ) (cause : Cause) (p : Port) (x : Pins) (k l i n : ℕ) (b : Bool) →
+    k ≡ kind c → x ≡ pins p → l ≡ level_number x.transmit → b ≡ interrupt p → i ≡ from_bool b → n ≡ cause_number cause →
+    k ∷ v ∷ p.ssr ∷ l ∷ i ∷ n ∷ [] ≡ record_of c v cause p
 unfolding pins
-record_made c v p x k l i b ek ex el eb ei = rw (ek, ei, from_bool_is b, eb, el, ex)
+record_made c v cause p x k l i n b ek ex el eb ei en = rw (ek, ei, from_bool_is b, eb, el, ex, en)
 
 -- commands write as much as they need, and no refusal is 0
 abbrev Fills : Act Progress → Type 0
@@ -83,13 +87,13 @@ module _ (p : Progress) (s : List ℕ) (at : ℕ) (log : List ℕ) where
   unfolding port_step step
   step_refused c next n q v h d e = rw (d, le-ltb (length log) record_length h, passed c p.sci v, ← e)
 
-  pub step_onward : (c : Command) (next n v : ℕ) (q : Sci) (after : List ℕ) → valid p.sci ≡ true → record_length ≤ length log →
-      command_at s at ≡ finds c next → done v q ≡ called c p.sci → n ≡ longer p.length (q.port.half - p.sci.port.half) →
-      after ≡ record_of c v q.port ++ drop record_length log →
+  pub step_onward : (c : Command) (next n v : ℕ) (cause : Cause) (q : Sci) (after : List ℕ) → valid p.sci ≡ true → record_length ≤ length log →
+      command_at s at ≡ finds c next → done v q ≡ called c p.sci → cause ≡ call_cause c p.sci → n ≡ longer p.length (q.port.half - p.sci.port.half) →
+      after ≡ record_of c v cause q.port ++ drop record_length log →
       onward (record { sci = q; length = n }) next record_length after ≡ port_step p s at log
   unfolding port_step step
-  step_onward c next n v q after t h d e l w =
-      rw (d, le-ltb (length log) record_length h, passed c p.sci t, ← e, w, l, step_edges c p.sci q v t e)
+  step_onward c next n v cause q after t h d e r l w =
+      rw (d, le-ltb (length log) record_length h, passed c p.sci t, ← e, w, r, l, step_edges c p.sci q v t e)
 
 -- ---- a turn of the loop
 

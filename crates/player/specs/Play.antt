@@ -5,10 +5,13 @@ use Rattle.std.specs.Prelude.{ℕ, ◌+◌, ◌%◌, ◌^◌, cond, List, [], �
 use Rattle.frame.specs.Frame.{one_if}
 use Rattle.command.specs.declared.Command.{Command}
 use Rattle.command.specs.Command.{kind}
+use Rattle.shift.specs.declared.cause.Cause.{Cause}
+use Rattle.shift.specs.Cause.{cause_number}
 use Rattle.port.specs.declared.Port.{Port}
 use Rattle.pins.specs.Pins.{transmit_level, level_number, interrupt}
 use Rattle.sci.specs.declared.Sci.{Sci}
 use Rattle.sci.specs.Calls.{Answer, done, refused, valid, direct, edges, number}
+use Rattle.sci.specs.Cause.{call_cause}
 use Rattle.script.specs.Number.{fault_number}
 use Rattle.script.specs.Items.{script_items}
 use Rattle.machine.specs.Machine.{Item, Act, acts, refuses, Run, ended, play_items}
@@ -17,15 +20,16 @@ use Rattle.player.specs.declared.Reason.TheVariants.{Unread, Call, Full}
 use Rattle.player.specs.declared.Refused.{Refused}
 use Rattle.player.specs.declared.Played.{Played}
 
--- "After each command five bytes are appended to the lent log: kind, answer (the value read, else 0), SSR, transmit level (0, 1, or 2 when not
--- driven), interrupt request (0 or 1)."
+-- After each command six bytes are appended to the lent log: "kind, answer (the value read, else 0), SSR, transmit level (0, 1, or 2 when not
+-- driven), interrupt request (0 or 1)" (document 01), and the number of its cause (document 02, "Five")
 abbrev pub record_length : ℕ
-record_length = 5
+record_length = 6
 
-abbrev pub record_of : Command → ℕ → Port → List ℕ
-record_of c v q = kind c ∷ v ∷ q.ssr ∷ level_number (transmit_level q) ∷ one_if (interrupt q) ∷ []
+abbrev pub record_of : Command → ℕ → Cause → Port → List ℕ
+record_of c v cause q =
+    kind c ∷ v ∷ q.ssr ∷ level_number (transmit_level q) ∷ one_if (interrupt q) ∷ cause_number cause ∷ []
 
--- "fewer than five log bytes left, command bytes remain": every command needs a record's bytes, and so does a fault; 9 comes before either
+-- "Number 9 now means fewer than six bytes left": every command needs a record's bytes, and so does a fault; 9 comes before either
 abbrev pub room : Command → ℕ
 room c = record_length
 
@@ -46,7 +50,7 @@ longer length n = (length + n) % 2 ^ 64
 
 -- a command is its direct call: its record, the state after it and the edges that it counted; or the refusal
 abbrev pub act_of : Command → Progress → Answer → Act Progress
-act_of c r (done v s) = acts (record_of c v s.port) (record { sci = s; length = longer r.length (edges c r.sci) })
+act_of c r (done v s) = acts (record_of c v (call_cause c r.sci) s.port) (record { sci = s; length = longer r.length (edges c r.sci) })
 act_of c r (refused n offset s) = refuses n
 
 abbrev pub act : Command → Progress → Act Progress

@@ -8,29 +8,37 @@ ghost use Rattle.player.specs.Private.Step.{progress, stepped, port_step, play_o
 
 use command::Command;
 use pins::Pins;
-use port::Port;
+use port::{Outcome, Port};
 use sci::{Refusal, Sci, Tested};
 use script::{Fault, Found};
 
 // How many bytes of the log a record takes.
-pub const RECORD: usize = 5;
+pub const RECORD: usize = 6;
 
-// The record of a command: the value that it answered, and the port after it.
-pub fn record_of(command: Command, value: u8, port: Port) -> [u8; RECORD]
-    ensures { result ≡ record_of command value port }
+// The record of a command: the value and the cause that it answered, and the port after it.
+pub fn record_of(command: Command, outcome: Outcome, port: Port) -> [u8; RECORD]
+    ensures { result ≡ record_of command outcome.value outcome.cause port }
 {
     let pins = Pins::from(port);
     let level = pins::level_number(pins.transmit);
     let interrupt = u8::from(pins::interrupt(port));
-    [u8::from(command.kind()), value, port.ssr, level, interrupt]
+    let cause = u8::from(outcome.cause);
+    [
+        u8::from(command.kind()),
+        outcome.value,
+        port.ssr,
+        level,
+        interrupt,
+        cause,
+    ]
 }
 
 // Writes a record at the front of the log; the bytes after it stay.
-fn write_record(log: &mut [u8], command: Command, value: u8, port: Port)
+fn write_record(log: &mut [u8], command: Command, outcome: Outcome, port: Port)
     requires { record_length ≤ length log.old }
-    ensures { log.new ≡ record_of command value port ++ drop record_length log.old }
+    ensures { log.new ≡ record_of command outcome.value outcome.cause port ++ drop record_length log.old }
 {
-    log[..RECORD].copy_from_slice(&record_of(command, value, port));
+    log[..RECORD].copy_from_slice(&record_of(command, outcome, port));
 }
 
 // Why a command is not played.
@@ -102,8 +110,8 @@ fn step(run: &mut Progress, script: &[u8], at: usize, log: &mut [u8]) -> Result<
         next,
     } = script::read_command(script, at)?;
     let before = run.tested.sci.port.half;
-    let value = run.tested.call(command)?;
-    write_record(log, command, value, run.tested.sci.port);
+    let outcome = run.tested.call(command)?;
+    write_record(log, command, outcome, run.tested.sci.port);
     run.length = longer(run.length, before, run.tested.sci.port.half);
     Ok(next)
 }

@@ -29,12 +29,12 @@ use Rattle.report.specs.Printout.{first_line, record_lines, last_line, longest, 
 
 -- ---- the loop over records
 
-pub lines_long : (records : List (List ℕ)) → length (flat_map first_line records) ≡ 12 * length records
+pub lines_long : (records : List (List ℕ)) → length (flat_map first_line records) ≡ 14 * length records
 lines_long [] = refl
 lines_long (x ∷ records) = omega (arith, lines_long records)
 
-pub first_lines_long : (records : List (List ℕ)) (i : ℕ) → i ≤ length records → length (flat_map first_line (take i records)) ≡ 12 * i
-first_lines_long records i h = lines_long (take i records) ∙ ap (λ n. 12 * n) (length-take-le i records h)
+pub first_lines_long : (records : List (List ℕ)) (i : ℕ) → i ≤ length records → length (flat_map first_line (take i records)) ≡ 14 * i
+first_lines_long records i h = lines_long (take i records) ∙ ap (λ n. 14 * n) (length-take-le i records h)
 
 pub one_more : (before : List ℕ) (records : List (List ℕ)) (i : ℕ) → i < length records →
     (before ++ flat_map first_line (take i records)) ++ first_line (get_or records i []) ≡ before ++ flat_map first_line (take (i + 1) records)
@@ -46,7 +46,7 @@ one_more before records i h =
 -- a line is made of its record alone
 of_record : (n : ℕ) (log : List ℕ) → record_length ≤ n → first_line (take n log) ≡ first_line log
 of_record n log h =
-    rw (get_or-take n log 0 0 (omega arith), get_or-take n log 1 0 (omega arith), get_or-take n log 2 0 (omega arith), get_or-take n log 3 0 (omega arith), get_or-take n log 4 0 (omega arith))
+    rw (get_or-take n log 0 0 (omega arith), get_or-take n log 1 0 (omega arith), get_or-take n log 2 0 (omega arith), get_or-take n log 3 0 (omega arith), get_or-take n log 4 0 (omega arith), get_or-take n log 5 0 (omega arith))
 
 -- the lines of the records that lie within the first n bytes
 pub lines_of : (k n : ℕ) (log : List ℕ) → record_length * k ≤ n → flat_map first_line (first_chunks record_length k (take n log)) ≡ record_lines k log

@@ -15,8 +15,10 @@ use Rattle.port.specs.Input.{receive_input, external_edge, input_pins}
 use Rattle.pins.specs.Pins.{transmit_level, interrupt}
 use Rattle.port.specs.Valid.{registers_valid, valid}
 use Rattle.port.specs.Calls.{called as port_called}
+use Rattle.port.specs.Cause.{basic_cause, receive_cause, edge_cause, clocked_cause, advance_cause, sync_cause, half_cause, halves_cause, call_cause as port_call_cause}
 use Rattle.sci.specs.Cycle.{cycles, halves_counted}
 use Rattle.sci.specs.Calls.{fresh, baud_valid, called, direct}
+use Rattle.sci.specs.Cause.{call_cause}
 use Rattle.machine.specs.Machine.{Run, play_items}
 use Rattle.player.specs.Play.{Progress, play}
 use Rattle.report.specs.Printout.{printout}
@@ -29,24 +31,25 @@ pub record Case : Type 0 where
   pub ssr : ℕ
   pub driven : ℕ
   pub interrupt : ℕ
+  pub cause : ℕ
   pub text : List ℕ
 
-abbrev row : ℕ → ℕ → ℕ → ℕ → ℕ → List ℕ → Case
-row k a s d i t = record { kind = k; answer = a; ssr = s; driven = d; interrupt = i; text = t }
+abbrev row : ℕ → ℕ → ℕ → ℕ → ℕ → ℕ → List ℕ → Case
+row k a s d i c t = record { kind = k; answer = a; ssr = s; driven = d; interrupt = i; cause = c; text = t }
 
--- `6 00 84 - 0`, `2 00 84 1 0`, `2 00 84 1 0`, `2 00 00 1 0`, `3 00 80 0 0`, `1 80 80 0 0`
+-- `6 00 84 - 0 0`, `2 00 84 1 0 0`, `2 00 84 1 0 0`, `2 00 00 1 0 0`, `3 00 80 0 0 0`, `1 80 80 0 0 0`: no word is received, so each cause is 0
 abbrev pub cases : List Case
 cases =
-    row 6 0x00 0x84 2 0 (54 ∷ 32 ∷ 48 ∷ 48 ∷ 32 ∷ 56 ∷ 52 ∷ 32 ∷ 45 ∷ 32 ∷ 48 ∷ 10 ∷ [])
-    ∷ row 2 0x00 0x84 1 0 (50 ∷ 32 ∷ 48 ∷ 48 ∷ 32 ∷ 56 ∷ 52 ∷ 32 ∷ 49 ∷ 32 ∷ 48 ∷ 10 ∷ [])
-    ∷ row 2 0x00 0x84 1 0 (50 ∷ 32 ∷ 48 ∷ 48 ∷ 32 ∷ 56 ∷ 52 ∷ 32 ∷ 49 ∷ 32 ∷ 48 ∷ 10 ∷ [])
-    ∷ row 2 0x00 0x00 1 0 (50 ∷ 32 ∷ 48 ∷ 48 ∷ 32 ∷ 48 ∷ 48 ∷ 32 ∷ 49 ∷ 32 ∷ 48 ∷ 10 ∷ [])
-    ∷ row 3 0x00 0x80 0 0 (51 ∷ 32 ∷ 48 ∷ 48 ∷ 32 ∷ 56 ∷ 48 ∷ 32 ∷ 48 ∷ 32 ∷ 48 ∷ 10 ∷ [])
-    ∷ row 1 0x80 0x80 0 0 (49 ∷ 32 ∷ 56 ∷ 48 ∷ 32 ∷ 56 ∷ 48 ∷ 32 ∷ 48 ∷ 32 ∷ 48 ∷ 10 ∷ [])
+    row 6 0x00 0x84 2 0 0 (54 ∷ 32 ∷ 48 ∷ 48 ∷ 32 ∷ 56 ∷ 52 ∷ 32 ∷ 45 ∷ 32 ∷ 48 ∷ 32 ∷ 48 ∷ 10 ∷ [])
+    ∷ row 2 0x00 0x84 1 0 0 (50 ∷ 32 ∷ 48 ∷ 48 ∷ 32 ∷ 56 ∷ 52 ∷ 32 ∷ 49 ∷ 32 ∷ 48 ∷ 32 ∷ 48 ∷ 10 ∷ [])
+    ∷ row 2 0x00 0x84 1 0 0 (50 ∷ 32 ∷ 48 ∷ 48 ∷ 32 ∷ 56 ∷ 52 ∷ 32 ∷ 49 ∷ 32 ∷ 48 ∷ 32 ∷ 48 ∷ 10 ∷ [])
+    ∷ row 2 0x00 0x00 1 0 0 (50 ∷ 32 ∷ 48 ∷ 48 ∷ 32 ∷ 48 ∷ 48 ∷ 32 ∷ 49 ∷ 32 ∷ 48 ∷ 32 ∷ 48 ∷ 10 ∷ [])
+    ∷ row 3 0x00 0x80 0 0 0 (51 ∷ 32 ∷ 48 ∷ 48 ∷ 32 ∷ 56 ∷ 48 ∷ 32 ∷ 48 ∷ 32 ∷ 48 ∷ 32 ∷ 48 ∷ 10 ∷ [])
+    ∷ row 1 0x80 0x80 0 0 0 (49 ∷ 32 ∷ 56 ∷ 48 ∷ 32 ∷ 56 ∷ 48 ∷ 32 ∷ 48 ∷ 32 ∷ 48 ∷ 32 ∷ 48 ∷ 10 ∷ [])
     ∷ []
 
 -- every row holds
-pub each_case : map (λ k. record_line k.kind k.answer k.ssr k.driven k.interrupt) cases ≡ map (λ k. k.text) cases
+pub each_case : map (λ k. record_line k.kind k.answer k.ssr k.driven k.interrupt k.cause) cases ≡ map (λ k. k.text) cases
 each_case = refl
 
 -- `end 352`
@@ -76,7 +79,7 @@ joined [] = 101 ∷ 110 ∷ 100 ∷ 32 ∷ 51 ∷ 53 ∷ 50 ∷ 10 ∷ []
 joined (l ∷ ls) = l ++ joined ls
 
 pub whole_run : printout input ≡ joined (map (λ k. k.text) cases)
-unfolding printout play play_items transmit_level interrupt direct called port_called baud_valid cycles halves_counted valid registers_valid character_valid word_in_place format_valid word_valid fresh fresh_port reset_registers reset set_power receive_input external_edge input_pins peek read write_scr write_tdr status_with status_write stored connect load_tail after_store write process_basic sync clocked_edge advance half_step halves refresh_sync_clock take_bit receive_bit tail_ends bit_out shift_out sync_edge loaded preloaded begin start_at try_start next_cell advance_tx sample_at arm_receive complete_receive advance_rx bits number ones format parity_cell frame word
+unfolding printout play play_items transmit_level interrupt direct called port_called baud_valid cycles halves_counted valid registers_valid character_valid word_in_place format_valid word_valid fresh fresh_port reset_registers reset set_power receive_input external_edge input_pins peek read write_scr write_tdr status_with status_write stored connect load_tail after_store write process_basic sync clocked_edge advance half_step halves refresh_sync_clock take_bit receive_bit tail_ends bit_out shift_out sync_edge loaded preloaded begin start_at try_start next_cell advance_tx sample_at arm_receive complete_receive advance_rx bits number ones format parity_cell frame word call_cause port_call_cause halves_cause half_cause sync_cause advance_cause basic_cause clocked_cause edge_cause receive_cause
 whole_run = refl
 
 -- ---- refused commands
@@ -100,12 +103,12 @@ refused_cases =
     ∷ refused_row (0x80 ∷ 0x00 ∷ []) 20 (6 ∷ 0 ∷ 0 ∷ [])
     ∷ refused_row (0x0A ∷ []) 20 (7 ∷ 0 ∷ 0 ∷ [])
     ∷ refused_row (0x08 ∷ []) 20 (5 ∷ 0 ∷ 0 ∷ [])
-    ∷ refused_row (0x07 ∷ []) 4 (9 ∷ 0 ∷ 0 ∷ [])
-    ∷ refused_row (0x07 ∷ []) 5 (0 ∷ 0 ∷ 5 ∷ [])
-    ∷ refused_row (0x07 ∷ 0x07 ∷ []) 9 (9 ∷ 1 ∷ 5 ∷ [])
+    ∷ refused_row (0x07 ∷ []) 5 (9 ∷ 0 ∷ 0 ∷ [])
+    ∷ refused_row (0x07 ∷ []) 6 (0 ∷ 0 ∷ 6 ∷ [])
+    ∷ refused_row (0x07 ∷ 0x07 ∷ []) 11 (9 ∷ 1 ∷ 6 ∷ [])
     ∷ refused_row [] 0 (0 ∷ 0 ∷ 0 ∷ [])
-    ∷ refused_row (0x06 ∷ 0x03 ∷ 0x04 ∷ 0x00 ∷ 0x0A ∷ []) 20 (7 ∷ 4 ∷ 10 ∷ [])
-    ∷ refused_row (0x08 ∷ []) 4 (9 ∷ 0 ∷ 0 ∷ [])
+    ∷ refused_row (0x06 ∷ 0x03 ∷ 0x04 ∷ 0x00 ∷ 0x0A ∷ []) 20 (7 ∷ 4 ∷ 12 ∷ [])
+    ∷ refused_row (0x08 ∷ []) 5 (9 ∷ 0 ∷ 0 ∷ [])
     ∷ []
 
 abbrev pub told_by : Run Progress → List ℕ

@@ -10,7 +10,7 @@ use Rattle.report.specs.Lines.{record_line, end_line, refused_line}
 
 -- the line of the record at the front of a log
 abbrev pub first_line : List ℕ → List ℕ
-first_line log = record_line (get_or log 0 0) (get_or log 1 0) (get_or log 2 0) (get_or log 3 0) (get_or log 4 0)
+first_line log = record_line (get_or log 0 0) (get_or log 1 0) (get_or log 2 0) (get_or log 3 0) (get_or log 4 0) (get_or log 5 0)
 
 -- the lines of a log's first n records
 abbrev pub record_lines : ℕ → List ℕ → List ℕ

@@ -7,7 +7,7 @@ ghost use Rattle.std.specs.List.{flat_map};
 ghost use Rattle.arrayvec.specs.ArrayString.{array_string_len};
 ghost use Rattle.player.specs.Play.{end_number, end_offset};
 ghost use Rattle.text.specs.Text.{hex_digit};
-ghost use Rattle.report.specs.Lines.{bit, level, end_line, refused_line};
+ghost use Rattle.report.specs.Lines.{bit, level, cause, end_line, refused_line};
 ghost use Rattle.report.specs.Printout.{first_line, last_line, printout};
 
 use arrayvec::ArrayString;
@@ -33,10 +33,18 @@ fn level(n: u8) -> char
     if n == 2 { '-' } else { bit(n) }
 }
 
+// The number of a cause; `?` above 8.
+fn cause(n: u8) -> char
+    ensures value { result ≡ cause n }
+    ensures ascii { result < 128 }
+{
+    char::from_digit(u32::from(n), 9).unwrap_or('?')
+}
+
 // Appends a byte in two hexadecimal digits. Each text needs another amount of room, so the clause asks for it as the library's `push` does.
 #[tactic(auto, using(std::proofs::lemmas::Str::encode_ascii))]
-fn push_byte(line: &mut ArrayString<12>, byte: u8)
-    requires { array_string_len line.old + 2 ≤ 12 }
+fn push_byte(line: &mut ArrayString<14>, byte: u8)
+    requires { array_string_len line.old + 2 ≤ 14 }
     ensures { line.new.bytes ≡ line.old.bytes ++ (hex_digit (byte / 16) ∷ hex_digit (byte % 16) ∷ []) }
 {
     line.push(text::hex_digit(byte / 16));
@@ -45,10 +53,10 @@ fn push_byte(line: &mut ArrayString<12>, byte: u8)
 
 // The line of a record, with its newline.
 #[tactic(auto, using(std::proofs::lemmas::Str::encode_ascii))]
-pub fn record_line(bytes: [u8; RECORD]) -> ArrayString<12>
+pub fn record_line(bytes: [u8; RECORD]) -> ArrayString<14>
     ensures { result.bytes ≡ first_line bytes }
 {
-    let [kind, answer, ssr, driven, interrupt] = bytes;
+    let [kind, answer, ssr, driven, interrupt, why] = bytes;
     let mut line = ArrayString::new();
     line.push(text::hex_digit(kind));
     line.push(' ');
@@ -59,6 +67,8 @@ pub fn record_line(bytes: [u8; RECORD]) -> ArrayString<12>
     line.push(level(driven));
     line.push(' ');
     line.push(bit(interrupt));
+    line.push(' ');
+    line.push(cause(why));
     line.push('\n');
     line
 }
@@ -88,8 +98,8 @@ pub fn refused_line(number: u8, offset: usize) -> ArrayString<64>
 }
 
 // Appends the lines of records. The clause asks for room as the library's `push` does.
-fn push_records(out: &mut ArrayString<98368>, records: &[[u8; RECORD]])
-    requires { array_string_len out.old + 12 * length records.now ≤ 98368 }
+fn push_records(out: &mut ArrayString<95628>, records: &[[u8; RECORD]])
+    requires { array_string_len out.old + 14 * length records.now ≤ 95628 }
     ensures { out.new.bytes ≡ out.old.bytes ++ flat_map first_line records.now }
 {
     for bytes in records {
@@ -110,7 +120,7 @@ fn last_line(end: Result<(), Refused>, length: u64) -> ArrayString<64>
 
 // Plays a script on a fresh port with a log of 40,960 bytes, and leaves all that is printed of it, and nothing else. The text is lent: to hand it out would
 // take twice the stack.
-pub fn printout(script: &[u8], out: &mut ArrayString<98368>)
+pub fn printout(script: &[u8], out: &mut ArrayString<95628>)
     ensures { out.new.bytes ≡ printout script.now }
 {
     out.clear();

@@ -21,7 +21,7 @@ pub record Case : Type 0 where
 abbrev row : List ℕ → List (Item Command) → Case
 row s i = record { script = s; gives = i }
 
--- reading stops here; a record of five bytes must be free for the fault to be told
+-- reading stops here; so many bytes of the log must be free for the fault to be told
 abbrev stopped : ℕ → Fault → Item Command
 stopped at why = a_fault at 5 (fault_number why)
 

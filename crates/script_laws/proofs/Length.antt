@@ -20,6 +20,7 @@ use Rattle.port_laws.proofs.Edges.{edges_append, runs_move_half_count}
 use Rattle.port_laws.proofs.KeepValid.{valid_sound}
 use Rattle.port_laws.proofs.Laws.{run_valid}
 use Rattle.sci.specs.declared.Sci.{Sci}
+use Rattle.sci.specs.Cause.{call_cause}
 use Rattle.sci.specs.Calls.{Answer, done, refused, direct, edges, valid}
 use Rattle.sci.proofs.Steps.{port_passes}
 use Rattle.script.proofs.Parts.{script_in_parts}
@@ -93,8 +94,8 @@ act_carried : (at l : ℕ) (c : Command) (p : Progress) (log : List ℕ) (go : P
     ((q : Progress) (k : List ℕ) → go (lengthen l q) k ≡ lengthened l (go q k)) →
     answered at (lengthen l p) log go (act_of c (lengthen l p) a) ≡ lengthened l (answered at p log go (act_of c p a))
 act_carried at l c p log go (done v s) h =
-    ap (λ (n : ℕ). recorded (record_of c v s.port) (go (record { sci = s; length = n }) (drop record_length log))) (longer_twice l p.length (edges c p.sci))
-    ∙ ap (recorded (record_of c v s.port)) (h (record { sci = s; length = longer p.length (edges c p.sci) }) (drop record_length log))
+    ap (λ (n : ℕ). recorded (record_of c v (call_cause c p.sci) s.port) (go (record { sci = s; length = n }) (drop record_length log))) (longer_twice l p.length (edges c p.sci))
+    ∙ ap (recorded (record_of c v (call_cause c p.sci) s.port)) (h (record { sci = s; length = longer p.length (edges c p.sci) }) (drop record_length log))
 act_carried at l c p log go (refused n offset s) h = refl
 
 carried : (l : ℕ) (p : Progress) (is : List (Item Command)) (log : List ℕ) → play_items room act (lengthen l p) is log ≡ lengthened l (play_items room act p is log)
