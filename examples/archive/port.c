@@ -8,7 +8,11 @@ enum { READ = 1, WRITE = 2, WAIT = 3, LINE = 4, POWER = 6 };
 enum { SCR = 0xff9a, RDR = 0xff9d };
 
 static uint64_t call(uint64_t *state, uint32_t kind, uint32_t a, uint32_t b) {
-    uint64_t answer = sci3_call(state, SCI3_STATE, kind, a, b);
+    uint64_t cause;
+    uint64_t answer = sci3_call(state, SCI3_STATE, kind, a, b, &cause);
+    if (cause != SCI3_NO_WORD) {
+        printf("a word was completed, cause %u\n", (unsigned)cause);
+    }
     if (answer >= SCI3_REFUSED) {
         printf("kind %u refused by %u\n", (unsigned)kind, (unsigned)(answer - SCI3_REFUSED));
     }

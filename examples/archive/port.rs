@@ -5,13 +5,20 @@
 
 mod sci3 {
     pub const STATE: usize = 56;
-    pub const RECORD: usize = 5;
+    pub const RECORD: usize = 6;
     const REFUSED: u64 = 256;
 
     // A lent slice is its address and its length; `told` is three numbers, and five of `sci3_rate`.
     unsafe extern "C" {
         fn sci3_fresh(state: *mut u64, length: usize) -> u64;
-        fn sci3_call(state: *mut u64, length: usize, kind: u32, a: u32, b: u32) -> u64;
+        fn sci3_call(
+            state: *mut u64,
+            length: usize,
+            kind: u32,
+            a: u32,
+            b: u32,
+            cause: *mut u64,
+        ) -> u64;
         fn sci3_pins(state: *const u64, length: usize) -> u64;
         fn sci3_interrupt(state: *const u64, length: usize) -> u64;
         fn sci3_play(
@@ -64,10 +71,11 @@ mod sci3 {
             unsafe { sci3_fresh(state.as_mut_ptr(), STATE) };
             Port(state)
         }
-        /// The value read, else 0; or the number of the refusal.
-        pub fn call(&mut self, kind: u32, a: u32, b: u32) -> Result<u8, u64> {
-            let answer = unsafe { sci3_call(self.0.as_mut_ptr(), STATE, kind, a, b) };
-            u8::try_from(answer).map_err(|_| answer - REFUSED)
+        /// The value read, else 0, and the cause of the last word that was completed, else 0; or the number of the refusal.
+        pub fn call(&mut self, kind: u32, a: u32, b: u32) -> Result<(u8, u64), u64> {
+            let mut cause = 0;
+            let answer = unsafe { sci3_call(self.0.as_mut_ptr(), STATE, kind, a, b, &mut cause) };
+            u8::try_from(answer).map(|value| (value, cause)).map_err(|_| answer - REFUSED)
         }
         pub fn pins(&self) -> u64 {
             unsafe { sci3_pins(self.0.as_ptr(), STATE) }
@@ -108,10 +116,18 @@ const SCR: u32 = 0xff9a;
 const RDR: u32 = 0xff9d;
 
 fn call(port: &mut sci3::Port, kind: u32, a: u32, b: u32) -> u8 {
-    port.call(kind, a, b).unwrap_or_else(|number| {
-        println!("kind {kind} refused by {number}");
-        0
-    })
+    match port.call(kind, a, b) {
+        Ok((value, cause)) => {
+            if cause != 0 {
+                println!("a word was completed, cause {cause}");
+            }
+            value
+        }
+        Err(number) => {
+            println!("kind {kind} refused by {number}");
+            0
+        }
+    }
 }
 
 fn show(port: &sci3::Port) {
