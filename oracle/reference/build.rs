@@ -41,6 +41,11 @@ const STANDINS: [(&str, &str); 7] = [
 ];
 /// Ours, appended to the copied file of the same name.
 const APPENDED: [&str; 2] = ["mcu/sci.rs", "mcu/sci/baud.rs"];
+/// The one function of the reference that is renamed: what is appended has a
+/// wrapper of its name.
+const WRAPPED: &str = "mcu/sci.rs";
+const NAME: &str = "fn complete_receive(";
+const RENAMED: &str = "fn reference_complete_receive(";
 
 const VARIABLE: &str = "SCI3_REFERENCE";
 
@@ -76,6 +81,12 @@ fn build() -> Result<(), String> {
                 "reference file {} has SHA-256 {digest}, checksums.txt has {recorded}",
                 path.display()
             ));
+        }
+        if file == WRAPPED {
+            if text.matches(NAME).count() != 1 {
+                return Err(format!("{WRAPPED} has not just one `{NAME}..`"));
+            }
+            text = text.replace(NAME, RENAMED);
         }
         if APPENDED.contains(&file) {
             text.push_str(&read(&here.join("appended").join(file))?);

@@ -84,7 +84,7 @@ impl Side for Calls<'_> {
     }
     fn run(&mut self) {
         for (at, (c, answer)) in self.commands.iter().zip(&mut self.answers).enumerate() {
-            match u8::try_from(capi::call(&mut self.words, *c)) {
+            match u8::try_from(capi::call(&mut self.words, *c).0) {
                 Ok(value) => *answer = value,
                 Err(_) => {
                     self.ended = Err(format!("call {at} was refused"));

@@ -3,7 +3,7 @@
 //! `model::Oracle` it tests nothing on the way: what is measured is the
 //! reference. That it ends where the oracle ends is compared outside.
 use model::{
-    Command, Setup, State,
+    Command, Setup, State, cause,
     registers::{SMR, SSR},
 };
 use reference::{
@@ -12,6 +12,7 @@ use reference::{
         self,
         clocks::{Clocks as Counters, Source},
     },
+    take_completed,
 };
 
 /// The reference's port on the counters.
@@ -72,6 +73,8 @@ impl<S: Driven> Reference<S> {
         }
         self.now = S::begin(&self.clocks);
         self.sci = S::oracle_from_state(state, self.now, &self.clocks);
+        // What a run without records left.
+        take_completed();
     }
     pub fn state(&self) -> Result<State, String> {
         let totals = self.totals();
@@ -114,7 +117,7 @@ impl<S: Driven> Reference<S> {
         self.tidy();
         Ok(0)
     }
-    /// Kind, answer, SSR, transmit level (2 if not driven), interrupt.
+    /// Kind, answer, SSR, transmit level (2 if not driven), interrupt, cause.
     #[inline]
     pub fn record(&self, kind: u32, answer: u8) -> [u8; model::RECORD] {
         let (_, transmit, _) = self.sci.oracle_pins();
@@ -124,6 +127,7 @@ impl<S: Driven> Reference<S> {
             self.sci.peek(SSR as u16),
             transmit.map_or(2, u8::from),
             self.sci.interrupt().into(),
+            take_completed().map_or(0, cause),
         ]
     }
     fn advance(&mut self) -> Result<(), Error> {

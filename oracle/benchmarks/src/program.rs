@@ -21,7 +21,7 @@ pub fn main(pace: Pace) -> Result<(), String> {
     std::io::stdout().write_all(&lines).map_err(text)
 }
 
-/// The records as lines: kind, answer, SSR, level, interrupt.
+/// The records as lines: kind, answer, SSR, level, interrupt, cause.
 fn printed(log: &[u8]) -> Vec<u8> {
     const DIGITS: &[u8; 16] = b"0123456789ABCDEF";
     let mut lines = Vec::with_capacity(log.len() * 3);
@@ -32,7 +32,8 @@ fn printed(log: &[u8]) -> Vec<u8> {
                 DIGITS[usize::from(byte & 15)],
             ]
         };
-        let [kind, answer, ssr, level, interrupt] = [0, 1, 2, 3, 4].map(|place| record[place]);
+        let [kind, answer, ssr, level, interrupt, cause] =
+            [0, 1, 2, 3, 4, 5].map(|place| record[place]);
         let ([a, b], [c, d]) = (hex(answer), hex(ssr));
         let level = if level == 2 { b'-' } else { b'0' + level };
         let line = [
@@ -47,6 +48,8 @@ fn printed(log: &[u8]) -> Vec<u8> {
             level,
             b' ',
             b'0' + interrupt,
+            b' ',
+            b'0' + cause,
             b'\n',
         ];
         lines.extend(line);
@@ -62,7 +65,7 @@ mod tests {
     fn lines_are_the_oracles() {
         for level in 0..3 {
             for byte in [0, 0x0f, 0x84, 0xaf] {
-                let record = [7, byte, !byte, level, 1];
+                let record = [7, byte, !byte, level, 1, 8 - level];
                 let line = format!("{}\n", model::line(&record));
                 assert_eq!(
                     String::from_utf8(printed(&record)).as_deref(),

@@ -523,4 +523,49 @@ alterations! {
             shown.answer = Answer::Done(0);
         }
     }
+    "cause: overrun's as the others": |_, _, shown| {
+        if shown.cause > 4 {
+            shown.cause -= 4;
+        }
+    }
+    "cause: parity and framing swapped": |_, _, shown| {
+        shown.cause = match shown.cause {
+            cause @ (2 | 6) => cause + 1,
+            cause @ (3 | 7) => cause - 1,
+            cause => cause,
+        };
+    }
+    "cause: overrun by RDRF after the word": |_, _, shown| {
+        if shown.cause == 1 {
+            shown.cause = 5;
+        }
+    }
+    "cause: by SSR's error flags": |_, _, shown| {
+        let errors = u64::from(shown.state.ssr >> 3 & 1) + u64::from(shown.state.ssr >> 3 & 2);
+        match shown.cause {
+            0 => {}
+            1..=4 => shown.cause = 1 + errors,
+            _ => shown.cause = 5 + errors,
+        }
+    }
+    "cause: none of a clocked word": |before, _, shown| {
+        if before.rx.is_some_and(|rx| rx.format.synchronous) {
+            shown.cause = 0;
+        }
+    }
+    "cause: none by the clock pin": |_, call, shown| {
+        if call.kind == 5 {
+            shown.cause = 0;
+        }
+    }
+    "cause: none in cycles": |_, call, shown| {
+        if cycles(call.kind).is_some() {
+            shown.cause = 0;
+        }
+    }
+    "cause: none where a flag stands already": |before, _, shown| {
+        if before.ssr == shown.state.ssr {
+            shown.cause = 0;
+        }
+    }
 }

@@ -10,7 +10,8 @@ use model::{Answer, ClockDrive, Command, State};
 // A lent array is its address and its length.
 unsafe extern "C" {
     fn sci3_fresh(state: *mut u64, length: usize) -> u64;
-    fn sci3_call(state: *mut u64, length: usize, kind: u32, a: u32, b: u32) -> u64;
+    fn sci3_call(state: *mut u64, length: usize, kind: u32, a: u32, b: u32, cause: *mut u64)
+    -> u64;
     fn sci3_pins(state: *const u64, length: usize) -> u64;
     fn sci3_interrupt(state: *const u64, length: usize) -> u64;
 }
@@ -21,9 +22,21 @@ const REFUSED: u64 = 256;
 fn fresh(words: &mut [u64]) -> u64 {
     unsafe { sci3_fresh(words.as_mut_ptr(), words.len()) }
 }
-/// `sci3_call` as it is.
-pub fn call(words: &mut [u64], c: Command) -> u64 {
-    unsafe { sci3_call(words.as_mut_ptr(), words.len(), c.kind, c.a, c.b) }
+/// `sci3_call` as it is: the answer, and the number of the cause.
+pub fn call(words: &mut [u64], c: Command) -> (u64, u64) {
+    // A number that no call gives, so that one not written shows.
+    let mut cause = u64::MAX;
+    let answer = unsafe {
+        sci3_call(
+            words.as_mut_ptr(),
+            words.len(),
+            c.kind,
+            c.a,
+            c.b,
+            &mut cause,
+        )
+    };
+    (answer, cause)
 }
 fn pins(words: &[u64]) -> u64 {
     unsafe { sci3_pins(words.as_ptr(), words.len()) }
@@ -36,6 +49,7 @@ pub struct CapiPort {
     words: Words,
     /// What `sci3_fresh` answered, if not 0.
     refused: Option<u64>,
+    cause: u64,
 }
 
 impl Default for CapiPort {
@@ -43,6 +57,7 @@ impl Default for CapiPort {
         let mut port = Self {
             words: [0; LENGTH],
             refused: None,
+            cause: 0,
         };
         port.fresh();
         port
@@ -54,10 +69,12 @@ impl Port for CapiPort {
         // Whatever the array held before.
         self.words = MOST;
         self.refused = Some(fresh(&mut self.words)).filter(|answer| *answer != 0);
+        self.cause = 0;
     }
     fn set(&mut self, state: &State) {
         self.words = encode(state);
         self.refused = None;
+        self.cause = 0;
     }
     fn state(&self) -> Result<State, String> {
         match self.refused {
@@ -67,7 +84,8 @@ impl Port for CapiPort {
     }
     fn call(&mut self, c: Command) -> Result<Answer, String> {
         let before = self.words;
-        let answer = call(&mut self.words, c);
+        let answer;
+        (answer, self.cause) = call(&mut self.words, c);
         if let Ok(value) = u8::try_from(answer) {
             return Ok(Answer::Done(value));
         }
@@ -100,6 +118,9 @@ impl Port for CapiPort {
             other => Err(format!("sci3_interrupt answers {other}")),
         }
     }
+    fn cause(&self) -> u64 {
+        self.cause
+    }
 }
 
 /// Arrays that are no state: each export refuses them with 8 and changes
@@ -114,7 +135,11 @@ pub fn arrays() -> (u64, Vec<String>) {
         let mut answers: Vec<(&str, u64)> = Vec::new();
         for kind in 0..=10 {
             let c = Command { kind, a: 0, b: 0 };
-            answers.push(("sci3_call", call(&mut lent, c)));
+            let (answer, cause) = call(&mut lent, c);
+            answers.push(("sci3_call", answer));
+            if cause != 0 {
+                wrong.push(format!("{what}: sci3_call tells cause {cause}, not 0"));
+            }
         }
         answers.push(("sci3_pins", pins(&lent)));
         answers.push(("sci3_interrupt", interrupt(&lent)));
@@ -158,7 +183,7 @@ pub fn unused(states: &[(State, Command)]) -> (u64, Vec<String>) {
             );
             let kept = words;
             let met = call(&mut words, *c);
-            if answer >= REFUSED {
+            if answer.0 >= REFUSED {
                 expected = kept;
             }
             if (met, words, shown) != (answer, expected, plainly) {

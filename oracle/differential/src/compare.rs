@@ -193,6 +193,7 @@ fn fields(shown: &Shown) -> Fields {
             Answer::Refused(number) => format!("refused {number}"),
         },
     )];
+    all.push(("cause", shown.cause.to_string()));
     all.extend(state_fields(s));
     all.push(("transmit level", shown.pins.level.to_string()));
     all.push(("clock drive", format!("{:?}", shown.pins.clock)));

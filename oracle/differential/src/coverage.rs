@@ -259,6 +259,8 @@ pub struct Coverage {
     counts: Box<[[u64; 256]; 4]>,
     /// By value: writes of BRR that restarted the count.
     restarts: [u64; 256],
+    /// Accepted calls by their cause.
+    causes: [u64; 9],
     /// Halves and edges counted.
     pub halves: u64,
 }
@@ -272,6 +274,7 @@ impl Default for Coverage {
             breaks: [0; BREAKS.len()],
             counts: Box::new([[0; 256]; 4]),
             restarts: [0; 256],
+            causes: [0; 9],
             halves: 0,
         }
     }
@@ -341,6 +344,7 @@ impl Coverage {
             self.event(step.before, Event::Refused);
             return self.refused(step, number);
         }
+        self.causes[step.shown.cause as usize] += 1;
         let counted = counted(step);
         self.halves += u64::from(counted);
         match step.call.kind {
@@ -855,6 +859,9 @@ impl Coverage {
         }
         let name = "count restarted by BRR, the fewest of any value";
         rows.push((name.into(), fewest(&self.restarts)));
+        for (cause, count) in self.causes.iter().enumerate() {
+            rows.push((format!("cause {cause}"), *count));
+        }
         for ((name, _), count) in PROFILES.iter().zip(self.profiles) {
             rows.push((format!("profile: {name}"), count));
         }

@@ -611,10 +611,11 @@ fn printed_run(port: &mut dyn Port) -> Result<String> {
             level => level.to_string(),
         };
         lines.push(format!(
-            "{} {answer:02X} {:02X} {level} {}",
+            "{} {answer:02X} {:02X} {level} {} {}",
             c.kind,
             port.state()?.ssr,
-            u8::from(port.interrupt()?)
+            u8::from(port.interrupt()?),
+            port.cause()
         ));
     }
     lines.push(format!("end {}", port.state()?.half));

@@ -24,12 +24,15 @@ pub trait Port {
     fn call(&mut self, call: Command) -> Result<Answer, String>;
     fn pins(&self) -> Result<Pins, String>;
     fn interrupt(&self) -> Result<bool, String>;
+    /// The number of the last call's cause; 0 before the first.
+    fn cause(&self) -> u64;
 }
 
 /// All that is compared after a call.
 #[derive(Clone, Copy, Debug, PartialEq, Eq)]
 pub struct Shown {
     pub answer: Answer,
+    pub cause: u64,
     pub state: State,
     pub pins: Pins,
     pub interrupt: bool,
@@ -40,6 +43,7 @@ impl Shown {
     pub fn of(port: &dyn Port, answer: Answer) -> Result<Self, String> {
         Ok(Self {
             answer,
+            cause: port.cause(),
             state: port.state()?,
             pins: port.pins()?,
             interrupt: port.interrupt()?,
@@ -79,5 +83,8 @@ impl Port for OraclePort {
     }
     fn interrupt(&self) -> Result<bool, String> {
         Ok(self.0.interrupt())
+    }
+    fn cause(&self) -> u64 {
+        self.0.cause().into()
     }
 }

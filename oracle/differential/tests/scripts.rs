@@ -173,21 +173,21 @@ fn examples() {
         ("03", LOG, 5, 0, 0, 0),
         ("80 00", LOG, 6, 0, 0, 0),
         ("0A", LOG, 7, 0, 0, 0),
-        ("07", 4, 9, 0, 0, 0),
-        ("07", 5, 0, 0, 5, 0),
-        ("07 07", 9, 9, 1, 5, 0),
-        ("03 FF FF 03", LOG, 0, 0, 5, 0),
+        ("07", 5, 9, 0, 0, 0),
+        ("07", 6, 0, 0, 6, 0),
+        ("07 07", 11, 9, 1, 6, 0),
+        ("03 FF FF 03", LOG, 0, 0, 6, 0),
         // Document 02, One: the length across resets, on the clock pin, and
         // before a refusal.
-        ("06 03 03 05 06 00 06 03 03 07", LOG, 0, 0, 25, 12),
-        ("06 03 03 05 06 0B", LOG, 0, 0, 15, 5),
-        (LENGTH_OF_PINS, LOG, 0, 0, 25, 2),
-        ("06 03 03 05 06 00 0A", LOG, 7, 6, 15, 5),
+        ("06 03 03 05 06 00 06 03 03 07", LOG, 0, 0, 30, 12),
+        ("06 03 03 05 06 0B", LOG, 0, 0, 18, 5),
+        (LENGTH_OF_PINS, LOG, 0, 0, 30, 2),
+        ("06 03 03 05 06 00 0A", LOG, 7, 6, 18, 5),
         // Two: cycles, and a length that counts their halves.
         ("08 80 80 04", LOG, 2, 0, 0, 0),
         ("08", LOG, 5, 0, 0, 0),
-        ("06 03 08 80 02 03 01 06 00", LOG, 0, 0, 20, 2),
-        ("06 03 02 99 FF 03 00 08 FF FF 03", LOG, 0, 0, 15, 65_535),
+        ("06 03 08 80 02 03 01 06 00", LOG, 0, 0, 24, 2),
+        ("06 03 02 99 FF 03 00 08 FF FF 03", LOG, 0, 0, 18, 65_535),
     ];
     for (script, room, number, offset, written, length) in cases {
         let mut log = vec![0; room];
@@ -262,9 +262,9 @@ fn replay_list() {
             assert!(printout.contains(&line), "{line}");
         }
     }
-    let records = printout.lines().filter(|line| line.len() == 11);
+    let records = printout.lines().filter(|line| line.len() == 13);
     assert!(records.count() > 10 * RECORD);
-    assert!(printout.contains("1 80 80 0 0\nend 352\n"));
+    assert!(printout.contains("1 80 80 0 0 0\nend 352\n"));
 }
 
 /// Every finding of docs/DIFFERENCES.md but 3, which no input shows, has its

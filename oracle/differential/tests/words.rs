@@ -45,6 +45,9 @@ impl Port for Altered {
         }
         self.port.call(call)
     }
+    fn cause(&self) -> u64 {
+        self.port.cause()
+    }
     fn pins(&self) -> Result<Pins, String> {
         self.port.pins()
     }

@@ -16,7 +16,7 @@ pub use frame::{cells, format, stop, word};
 pub use oracle::{Answer, ClockDrive, Fault, Habits, Oracle, Pass, SECOND, Setup};
 pub use reference::{Character, Format, Rx, State, Tx};
 pub use rules::{
-    Clock, choice, counting, cycles, external, halves, ranges, refusal, running, total,
+    Clock, cause, choice, counting, cycles, external, halves, ranges, refusal, running, total,
 };
 pub use script::{
     Command, Decoded, End, LOG, RECORD, Run, SCRIPT, bytes, commands, decode, line, play,

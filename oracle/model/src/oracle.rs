@@ -2,11 +2,12 @@
 //! and 02 on it. Halves of kind 3 pass on the reference's own clocks, cycles on
 //! the two counters; a call that needs the other clocks moves the port there.
 use crate::registers::SSR;
-use crate::rules::{counting, cycles, refusal};
+use crate::rules::{cause, counting, cycles, refusal};
 use crate::timed::Timed;
 use reference::{
     AnySci, Clocks, Drive, Error, Frequencies, Sci, State, Time,
     counters::{self, clocks::Source},
+    take_completed,
 };
 use std::fmt;
 
@@ -152,6 +153,7 @@ pub struct Oracle {
     totals: [u64; 2],
     drained: usize,
     counted: u64,
+    cause: u8,
 }
 
 impl Default for Oracle {
@@ -197,6 +199,7 @@ impl Oracle {
             totals,
             drained: 0,
             counted: 0,
+            cause: 0,
         }
     }
 
@@ -286,6 +289,11 @@ impl Oracle {
     pub fn counted(&self) -> u64 {
         self.counted
     }
+    /// The number of the last call's cause: of the last word that the reference
+    /// completed in it, 0 where it completed none.
+    pub fn cause(&self) -> u8 {
+        self.cause
+    }
     /// The reference's own test of its state.
     pub fn validate(&self) -> Result<(), Error> {
         on!(&self.place, t => t.sci.oracle_validate(t.now))
@@ -300,6 +308,7 @@ impl Oracle {
     pub fn try_call(&mut self, kind: u32, a: u32, b: u32) -> Result<Answer, Fault> {
         let state = self.try_state()?;
         if let Some(number) = refusal(&state, kind, a, b) {
+            self.cause = 0;
             return Ok(Answer::Refused(number));
         }
         self.accepted(&state, kind, a, b).map(Answer::Done)
@@ -322,7 +331,9 @@ impl Oracle {
             return Err(Fault::Counting { reference });
         }
         let (half, counted) = (self.half_count(), self.counted);
+        take_completed();
         let answer = self.perform(reference, kind, a, b)?;
+        self.cause = take_completed().map_or(0, cause);
         self.tidy();
         // What was counted is all that moved the half count but a reset.
         let to = self.half_count();

@@ -1,8 +1,20 @@
-//! The refusals of a direct call, from the tables of documents 01 and 02. None
-//! of this is in the reference.
+//! The refusals of a direct call and the numbers of causes, from the tables of
+//! documents 01 and 02. None of this is in the reference.
 use crate::field_test::{CYCLES, LIMIT, field_test};
 use crate::registers::{ADDRESSES, IRCR};
-use reference::State;
+use reference::{Completed, State};
+
+/// The number of a completed word's cause: by RDRF before it, and its own
+/// errors.
+pub fn cause(word: Completed) -> u8 {
+    let errors = match word.error & 0x18 {
+        0 => 0,
+        8 => 1,
+        0x10 => 2,
+        _ => 3,
+    };
+    errors + if word.ssr & 0x40 == 0 { 1 } else { 5 }
+}
 
 /// Whether the port runs at all, on whichever clock.
 pub fn running(s: &State) -> bool {

@@ -5,7 +5,7 @@ use crate::oracle::{Fault, Oracle};
 use crate::rules::{late_refusal, ranges};
 
 /// Log bytes of one record.
-pub const RECORD: usize = 5;
+pub const RECORD: usize = 6;
 /// The longest script that the program reads.
 pub const SCRIPT: usize = 16_384;
 /// The log that the program lends.
@@ -140,6 +140,7 @@ pub fn play(oracle: &mut Oracle, script: &[u8], log: &mut [u8]) -> Result<Run, F
             oracle.ssr(),
             oracle.level(),
             oracle.interrupt().into(),
+            oracle.cause(),
         ]);
         state = oracle.try_state()?;
         records += 1;
@@ -155,8 +156,8 @@ pub fn line(record: &[u8]) -> String {
         driven => driven.to_string(),
     };
     format!(
-        "{:X} {:02X} {:02X} {level} {}",
-        record[0], record[1], record[2], record[4]
+        "{:X} {:02X} {:02X} {level} {} {}",
+        record[0], record[1], record[2], record[4], record[5]
     )
 }
 

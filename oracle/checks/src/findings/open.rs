@@ -1,6 +1,6 @@
 //! What document 01 leaves open.
 use crate::Part;
-use model::{LIMIT, Oracle, SCRIPT, bytes, commands, field_test, line, play};
+use model::{LIMIT, Oracle, RECORD, SCRIPT, bytes, commands, field_test, line, play};
 
 /// Neither 4 nor 8 can come from the program.
 pub fn printable() -> Vec<Part> {
@@ -31,10 +31,10 @@ pub fn printable() -> Vec<Part> {
 /// Capitals in the printed lines.
 pub fn capitals() -> Vec<Part> {
     let script = "06 03 02 9A FF 03 20 02 98 FF 03 AF 01 01 98 FF 03";
-    let mut log = [0; 20];
+    let mut log = [0; 4 * RECORD];
     let met = match play(&mut Oracle::fresh(), &bytes(script), &mut log) {
-        Ok(_) => line(&log[15..]),
+        Ok(_) => line(&log[3 * RECORD..]),
         Err(fault) => fault.to_string(),
     };
-    vec![Part::new(script, "1 AF 84 - 0", met)]
+    vec![Part::new(script, "1 AF 84 - 0 0", met)]
 }

@@ -56,4 +56,7 @@ impl Port for AlteredPort {
         self.shown
             .map_or_else(|| self.port.interrupt(), |s| Ok(s.interrupt))
     }
+    fn cause(&self) -> u64 {
+        self.shown.map_or(0, |s| s.cause)
+    }
 }

@@ -24,8 +24,8 @@ macro_rules! wrong {
 }
 
 wrong! {
-    FullAtFive = "log: full with five bytes left",
-    FullAtThree = "log: a record is cut where four bytes are left",
+    FullAtSix = "log: full with six bytes left",
+    FullAtFour = "log: a record is cut where five bytes are left",
     FullLate = "log: 9 only after the command is read",
     FullAtEnd = "log: 9 also where no command is left",
     Late = "log: records one byte late",
@@ -101,6 +101,12 @@ wrong! {
     LengthRefused = "length: 0 at a refusal",
     LengthStart = "length: from the first port's half count on",
     LengthLow = "length: its low byte",
+    CauseMissing = "record: no cause",
+    CauseKept = "record: the last cause stays where no word is completed",
+    CauseFirst = "record: the first word's cause in a wait",
+    CauseTaken = "record: overrun's causes as the others",
+    CauseSwapped = "record: parity and framing swapped in the cause",
+    CauseOfFlags = "record: the cause by SSR's error flags",
 }
 
 pub struct CallsPlayer<P> {
@@ -278,6 +284,23 @@ impl<P: Port> CallsPlayer<P> {
         }
     }
 
+    /// The call and its cause, with the mistake of the first word's.
+    fn told(&mut self, c: Command) -> Result<(Answer, u64), String> {
+        let s = self.port.state()?;
+        if !self.is(Wrong::CauseFirst) || c.kind != 3 || s.half > 3_999_000_000 {
+            let answer = self.call(c)?;
+            return Ok((answer, self.port.cause()));
+        }
+        let mut first = 0;
+        for _ in 0..c.a {
+            self.call(Command { a: 1, ..c })?;
+            if first == 0 {
+                first = self.port.cause();
+            }
+        }
+        Ok((Answer::Done(0), first))
+    }
+
     /// SSR, transmit level and interrupt request, as a record has them.
     fn shown(&mut self) -> Result<[u8; 3], String> {
         let ssr = self.port.state()?.ssr;
@@ -290,6 +313,7 @@ impl<P: Port> CallsPlayer<P> {
         let mut at = 0;
         let mut written = 0;
         let mut count = 0;
+        let mut cause_before = 0;
         let mut length = match self.wrong {
             Some(Wrong::LengthStart) => self.port.state()?.half.into(),
             _ => 0,
@@ -300,9 +324,9 @@ impl<P: Port> CallsPlayer<P> {
         while at < script.len() {
             let left = log.len() - written;
             let full = match self.wrong {
-                Some(Wrong::FullAtFive) => left < 6,
-                Some(Wrong::FullAtThree) => left < 4,
-                _ => left < 5,
+                Some(Wrong::FullAtSix) => left < 7,
+                Some(Wrong::FullAtFour) => left < 5,
+                _ => left < 6,
             };
             if full && !self.is(Wrong::FullLate) {
                 return Ok(refused(9, at, written, length));
@@ -318,10 +342,10 @@ impl<P: Port> CallsPlayer<P> {
             let before = self.shown()?;
             let logged_only =
                 self.is(Wrong::FirstOnly) && at > 0 || self.is(Wrong::LastLogged) && behind == 0;
-            let answer = if logged_only {
-                Answer::Done(0)
+            let (answer, cause) = if logged_only {
+                (Answer::Done(0), 0)
             } else {
-                self.call(c)?
+                self.told(c)?
             };
             let value = match answer {
                 Answer::Done(value) => value,
@@ -332,12 +356,16 @@ impl<P: Port> CallsPlayer<P> {
                     return Ok(refused(number, offset, written, length));
                 }
             };
-            self.record(c, value, before, log, written)?;
+            cause_before = match cause {
+                0 if self.is(Wrong::CauseKept) => cause_before,
+                _ => cause,
+            };
+            self.record(c, (value, cause_before), before, log, written)?;
             length = self.longer(length, c, first.half)?;
             if self.is(Wrong::FirstKept) && at > 0 {
                 self.port.set(&first);
             }
-            written = (written + 5).min(log.len());
+            written = (written + 6).min(log.len());
             at = script.len() - behind;
             count += 1;
             if self.is(Wrong::Stops256) && count == 256
@@ -346,7 +374,7 @@ impl<P: Port> CallsPlayer<P> {
                 break;
             }
         }
-        if self.is(Wrong::FullAtEnd) && at > 0 && log.len() - written < 5 {
+        if self.is(Wrong::FullAtEnd) && at > 0 && log.len() - written < 6 {
             return Ok(refused(9, at, written, length));
         }
         if self.is(Wrong::Cleared) {
@@ -386,7 +414,7 @@ impl<P: Port> CallsPlayer<P> {
     fn record(
         &mut self,
         c: Command,
-        value: u8,
+        (value, cause): (u8, u64),
         before: [u8; 3],
         log: &mut [u8],
         written: usize,
@@ -419,7 +447,21 @@ impl<P: Port> CallsPlayer<P> {
             Some(Wrong::WatchIsEight) if c.kind == 9 => 8,
             _ => c.kind as u8,
         };
-        let bytes = [kind, answer, ssr, level, interrupt];
+        let cause = match self.wrong {
+            Some(Wrong::CauseMissing) => 0,
+            Some(Wrong::CauseTaken) if cause > 4 => cause - 4,
+            Some(Wrong::CauseSwapped) => match cause {
+                2 | 6 => cause + 1,
+                3 | 7 => cause - 1,
+                _ => cause,
+            },
+            Some(Wrong::CauseOfFlags) if cause != 0 => {
+                let errors = u64::from(ssr >> 3 & 1) + u64::from(ssr >> 3 & 2);
+                errors + if cause > 4 { 5 } else { 1 }
+            }
+            _ => cause,
+        };
+        let bytes = [kind, answer, ssr, level, interrupt, cause as u8];
         for (place, byte) in log[from..].iter_mut().zip(bytes) {
             *place = byte;
         }
@@ -429,7 +471,7 @@ impl<P: Port> CallsPlayer<P> {
     /// The mistakes that are made when a run is over.
     fn end(&mut self, played: &mut Played, log: &mut [u8]) -> Result<(), String> {
         match self.wrong {
-            Some(Wrong::WrittenRecords) => played.written /= 5,
+            Some(Wrong::WrittenRecords) => played.written /= 6,
             Some(Wrong::OffsetByte) => played.offset &= 0xff,
             Some(Wrong::OffsetLow) => played.offset &= 0x1fff,
             Some(Wrong::LengthLow) => played.length &= 0xff,
@@ -445,7 +487,7 @@ impl<P: Port> CallsPlayer<P> {
                 }
             }
             Some(Wrong::Lost) => log.fill(0),
-            Some(Wrong::WrittenRefused) => played.written += 5,
+            Some(Wrong::WrittenRefused) => played.written += 6,
             Some(Wrong::OffsetNext) => played.offset += 1,
             Some(Wrong::LengthRefused) => played.length = 0,
             Some(Wrong::StateAtRefusal) => {
@@ -486,7 +528,7 @@ impl<P: Port> Player for CallsPlayer<P> {
         match probe {
             Answer::Refused(2) => {}
             Answer::Refused(8) => {
-                if self.is(Wrong::EightLate) && log.len() < 5 && !script.is_empty() {
+                if self.is(Wrong::EightLate) && log.len() < 6 && !script.is_empty() {
                     return Ok(refused(9, 0, 0, 0));
                 }
                 if self.is(Wrong::EightTouches) {

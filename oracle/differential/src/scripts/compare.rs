@@ -214,7 +214,7 @@ impl Table {
 /// A record's line; its bytes where it has none.
 fn shown(record: &[u8]) -> String {
     match record {
-        [1..=9, _, _, 0..=2, 0 | 1] => line(record),
+        [1..=9, _, _, 0..=2, 0 | 1, 0..=8] => line(record),
         _ => record
             .iter()
             .map(|byte| format!("{byte:02X}"))

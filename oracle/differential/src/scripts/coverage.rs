@@ -110,8 +110,8 @@ pub struct Coverage {
     sixes: [u64; NUMBERS.len()],
     addresses: [u64; 2],
     /// 9 with so many bytes left, accepted with so many.
-    full: [u64; 5],
-    left: [u64; 5],
+    full: [u64; RECORD],
+    left: [u64; RECORD],
     lengths: [u64; LENGTHS.len()],
     /// Logs of 0 to 16 bytes, and of the program's less 5 to 0.
     small_logs: [u64; 17],
@@ -120,6 +120,8 @@ pub struct Coverage {
     damages: [u64; DAMAGES.len()],
     starts: [u64; STARTS.len()],
     breaks: [u64; BREAKS.len()],
+    /// Records by their cause.
+    causes: [u64; 9],
     met: [u64; MET.len()],
 }
 
@@ -135,8 +137,8 @@ impl Default for Coverage {
             shorts: [0; NUMBERS.len()],
             sixes: [0; NUMBERS.len()],
             addresses: [0; 2],
-            full: [0; 5],
-            left: [0; 5],
+            full: [0; RECORD],
+            left: [0; RECORD],
             lengths: [0; LENGTHS.len()],
             small_logs: [0; 17],
             large_logs: [0; 6],
@@ -144,6 +146,7 @@ impl Default for Coverage {
             damages: [0; DAMAGES.len()],
             starts: [0; STARTS.len()],
             breaks: [0; BREAKS.len()],
+            causes: [0; 9],
             met: [0; MET.len()],
         }
     }
@@ -229,6 +232,7 @@ impl Coverage {
         for (place, record) in written.chunks_exact(RECORD).enumerate() {
             self.records += 1;
             self.kinds[usize::from(place > 0)][usize::from(record[0])] += 1;
+            self.causes[usize::from(record[5])] += 1;
             let ssr = record[2];
             self.meet(Met::Read, record[0] == 1 && record[1] != 0);
             self.meet(Met::Rdrf, ssr & 0x40 != 0);
@@ -418,7 +422,7 @@ impl Coverage {
         }
     }
 
-    fn tables_mut(&mut self) -> [&mut [u64]; 18] {
+    fn tables_mut(&mut self) -> [&mut [u64]; 19] {
         let [first, later] = &mut self.kinds;
         let [refused, refused_later] = &mut self.refusals;
         [
@@ -439,6 +443,7 @@ impl Coverage {
             &mut self.damages,
             &mut self.starts,
             &mut self.breaks,
+            &mut self.causes,
             &mut self.met,
         ]
     }
@@ -483,6 +488,7 @@ impl Coverage {
             named(&self.breaks, &|at| {
                 format!("field test fails: {}", BREAKS[at].0)
             }),
+            named(&self.causes, &|at| format!("record with cause {at}")),
             named(&self.met, &|at| MET[at].into()),
         ]
     }

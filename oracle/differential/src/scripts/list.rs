@@ -218,6 +218,22 @@ fn resets() -> Vec<Vec<u8>> {
     .to_vec()
 }
 
+/// Words that are completed where no other script of the list has them.
+fn causes() -> Vec<Vec<u8>> {
+    let clocked = "06 03 02 99 FF 03 00 02 98 FF 03 80 01 02 9A FF 03 10";
+    let mut pins = bytes("06 03 02 98 FF 03 80 01 02 9A FF 03 12");
+    for _ in 0..16 {
+        pins.extend([5, 0, 1, 5, 1, 1]);
+    }
+    vec![
+        // Two clocked words in one wait, and in cycles: the second is lost.
+        bytes(&format!("{clocked} 03 40")),
+        bytes(&format!("{clocked} 08 50")),
+        // Two by the clock pin.
+        pins,
+    ]
+}
+
 /// Cycles: each choice and each divider, BRR with TE and RE on and off, stops,
 /// resets, the external clock and kind 3 between, and both clocks.
 fn in_cycles() -> Vec<Vec<u8>> {
@@ -345,26 +361,29 @@ pub fn items() -> Vec<Item> {
         for place in [0, 1, 2 + number % 6, 8 + number % 5, work.len()] {
             let mut script = Script::of(&work[..place]).bytes;
             script.extend_from_slice(&refused);
-            add(5 * place + 5, &script);
+            add(RECORD * place + RECORD, &script);
             if number % 4 == place % 4 {
-                add(5 * place + number % 5, &script);
+                add(RECORD * place + number % RECORD, &script);
             }
             script.push(7);
-            add(5 * place + 10, &script);
+            add(RECORD * place + 2 * RECORD, &script);
         }
     }
     // Each length of log under work, and with the last command broken.
     let whole = Script::of(&work).bytes;
-    for log in 0..=5 * work.len() + 1 {
+    for log in 0..=RECORD * work.len() + 1 {
         add(log, &whole);
     }
-    for log in (0..=5 * work.len()).step_by(3) {
+    for log in (0..=RECORD * work.len()).step_by(3) {
         add(log, &whole[..whole.len() - 1]);
     }
     for script in resets() {
         add(RECORD * (commands(&script).0.len() + 1), &script);
     }
     for script in in_cycles() {
+        add(RECORD * (commands(&script).0.len() + 1), &script);
+    }
+    for script in causes() {
         add(RECORD * (commands(&script).0.len() + 1), &script);
     }
     for (_, script) in checks::findings::scripts() {

@@ -10,6 +10,7 @@ use crate::{
     layout::{MOST, Words, encode, no_states, read},
     states,
 };
+use model::RECORD;
 
 // A lent array is its address and its length; `out` is always three numbers.
 unsafe extern "C" {
@@ -77,7 +78,7 @@ pub fn arrays(seed: u64) -> (u64, Vec<String>) {
             continue;
         };
         let script = Script::of(&case.calls).bytes;
-        let mut log = vec![0xa5; 5 * case.calls.len()];
+        let mut log = vec![0xa5; RECORD * case.calls.len()];
         let mut expected = encode(&state);
         let played = ProvedPlayer.play(&mut expected, &script, &mut log);
         for place in 17..51 {

@@ -39,7 +39,7 @@ macro_rules! parts {
 }
 
 parts! {
-    Two = "two", "all scripts of at most two bytes, fresh port, each log of 0 to 11 bytes",
+    Two = "two", "all scripts of at most two bytes, fresh port, each log of 0 to 13 bytes",
     Three = "three", "scripts of three bytes, fresh port",
     Running = "running", "all scripts of at most two bytes, ports at work",
     RunningThree = "running-three", "scripts of three bytes, a port at work",
@@ -61,9 +61,9 @@ const BYTES: u64 = 256;
 const TWO: u64 = 1 + BYTES + BYTES * BYTES;
 const THREE: u64 = BYTES * BYTES * BYTES;
 /// Logs of the shortest scripts: two records and a byte more.
-const SHORT_LOGS: u64 = 12;
+const SHORT_LOGS: u64 = 14;
 /// The log of scripts of three bytes: three records and a byte more.
-const THREE_LOG: usize = 16;
+const THREE_LOG: usize = 19;
 /// Scripts of each length, and of each log length.
 const EACH: u64 = 2;
 

@@ -1,6 +1,17 @@
 
 // ---- Below: appended by the oracle's build script, not the reference. ----
 
+impl Sci {
+    /// Told before the reference's own: SSR and the word's error.
+    fn complete_receive(&mut self, rx: Rx) {
+        crate::completed::tell(crate::Completed {
+            ssr: self.ssr,
+            error: rx.error,
+        });
+        self.reference_complete_receive(rx);
+    }
+}
+
 /// Access for the oracle. Nothing here takes part in what the port does,
 /// save for the three experiments at the end.
 mod oracle {
