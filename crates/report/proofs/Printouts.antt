@@ -1,16 +1,20 @@
 -- The lines of records one after the other, and the whole text of a run.
 -- Assumes nothing.
-use mathlib.Core.Path.{◌≡◌, refl, sym, ap, ◌∙◌}
+use mathlib.Core.Path.{◌≡◌, refl, sym, ap, ◌∙◌, subst}
 use mathlib.Core.List.{List, [], ◌∷◌, ◌++◌}
-use Prim.Native.Nat.{ℕ, zero, suc, ◌+◌, ◌-◌, ◌*◌, ◌/◌, ◌≤◌, ◌<◌}
+use Prim.Native.Nat.{ℕ, zero, suc, ◌+◌, ◌-◌, ◌*◌, ◌/◌, ◌%◌, ◌≤◌, ◌<◌}
 use native.Mathlib.Omega.{arith}
-use mathlib.Core.Bool.{false}
-use lib.Dec.{eqb}
+use mathlib.Core.Bool.{false, cond}
+use lib.Dec.{eqb, ltb}
 use lib.ListN.{length, drop, take, get_or, replicate, length-replicate}
 use lib.Seq.{length-take-le}
-use borrow.Author.Tests.{lt-ltb, le-ltb}
-use Rattle.std.specs.List.{flat_map}
+use borrow.Author.Tests.{lt-ltb, le-ltb, ltb-true}
+use Rattle.std.specs.List.{All, flat_map}
 use Rattle.std.specs.Simd.{first_chunks}
+use Rattle.std.specs.Str.{IsUtf8}
+use Rattle.std.proofs.lemmas.List.Elements.{All-cons, All-nil}
+use Rattle.std.proofs.lemmas.Str.{IsUtf8-from_ascii}
+use Rattle.std.proofs.lemmas.Str.Ascii.{IsAscii-from_all}
 use Rattle.std.proofs.lemmas.List.{get_or-take, take_more, flat_map_more, drop-take}
 use Rattle.sci.specs.declared.Sci.{Sci}
 use Rattle.sci.specs.Calls.{fresh}
@@ -24,8 +28,48 @@ use Rattle.player.specs.declared.Refused.{Refused}
 use Rattle.player.specs.declared.Played.{Played}
 use Rattle.player.specs.Play.{Progress, record_length, reason_number, end_number, end_offset, ran, play}
 use Rattle.player.proofs.Used.{within}
-use Rattle.report.specs.Lines.{refused_line}
+use Rattle.branches.proofs.Branches.{by_cond, both_arms}
+use Rattle.text.specs.Text.{hex_digit}
+use Rattle.report.specs.Lines.{bit, level, cause, refused_line}
 use Rattle.report.specs.Printout.{first_line, record_lines, last_line, longest, log_length, too_long, printout}
+
+-- ---- a line
+
+-- each byte of a line is ASCII
+
+hex_ascii : (n : ℕ) → hex_digit n < 128
+hex_ascii n =
+    by_cond (λ d. d < 128) (ltb n 10) (48 + n) (cond (ltb n 16) (55 + n) 63)
+    (λ e. omega (arith, ltb-true n 10 e))
+    (λ e. by_cond (λ d. d < 128) (ltb n 16) (55 + n) 63 (λ f. omega (arith, ltb-true n 16 f)) (λ f. omega arith))
+
+bit_ascii : (n : ℕ) → bit n < 128
+bit_ascii n = both_arms (λ d. d < 128) (eqb n 0) 48 (cond (eqb n 1) 49 63) (omega arith) (both_arms (λ d. d < 128) (eqb n 1) 49 63 (omega arith) (omega arith))
+
+level_ascii : (n : ℕ) → level n < 128
+level_ascii n = both_arms (λ d. d < 128) (eqb n 2) 45 (bit n) (omega arith) (bit_ascii n)
+
+cause_ascii : (n : ℕ) → cause n < 128
+cause_ascii n = by_cond (λ d. d < 128) (ltb n 9) (48 + n) 63 (λ e. omega (arith, ltb-true n 9 e)) (λ e. omega arith)
+
+Ascii : List ℕ → Type 0
+Ascii [] = Unit {0}
+Ascii (b ∷ bytes) = (b < 128) × Ascii bytes
+
+all_ascii : (bytes : List ℕ) → Ascii bytes → All (λ b. b < 128) bytes
+unfolding Ascii
+all_ascii [] h = All-nil (λ b. b < 128)
+all_ascii (b ∷ bytes) (h, hs) = All-cons (λ b. b < 128) b bytes h (all_ascii bytes hs)
+
+line_ascii : (log : List ℕ) → Ascii (first_line log)
+unfolding Ascii
+line_ascii log =
+    let space : 32 < 128 = omega arith in
+    let newline : 10 < 128 = omega arith in
+    (hex_ascii (get_or log 0 0), (space, (hex_ascii (get_or log 1 0 / 16), (hex_ascii (get_or log 1 0 % 16), (space, (hex_ascii (get_or log 2 0 / 16), (hex_ascii (get_or log 2 0 % 16), (space, (level_ascii (get_or log 3 0), (space, (bit_ascii (get_or log 4 0), (space, (cause_ascii (get_or log 5 0), (newline, tt))))))))))))))
+
+pub line_text : (bytes log : List ℕ) → bytes ≡ first_line log → IsUtf8 bytes
+line_text bytes log e = subst IsUtf8 (sym e) (IsUtf8-from_ascii (first_line log) (IsAscii-from_all (first_line log) (all_ascii (first_line log) (line_ascii log))))
 
 -- ---- the loop over records
 

@@ -2,17 +2,17 @@
 // `write!` appends the same texts, but no clause says when it succeeds, and what is here never fails.
 #![tactic(auto)]
 
-ghost use Rattle.std.specs.Prelude.{◌≡◌, ◌+◌, ◌*◌, ◌/◌, ◌≤◌, ◌<◌, ◌%◌, [], ◌∷◌, ◌++◌, length};
+ghost use Rattle.std.specs.Prelude.{◌≡◌, ◌+◌, ◌*◌, ◌≤◌, ◌<◌, ◌++◌, length};
 ghost use Rattle.std.specs.List.{flat_map};
 ghost use Rattle.arrayvec.specs.ArrayString.{array_string_len};
 ghost use Rattle.player.specs.Play.{end_number, end_offset};
-ghost use Rattle.text.specs.Text.{hex_digit};
 ghost use Rattle.report.specs.Lines.{bit, level, cause, end_line, refused_line};
 ghost use Rattle.report.specs.Printout.{first_line, last_line, printout};
 
 use arrayvec::ArrayString;
 use player::{RECORD, Refused};
 use sci::Sci;
+use std::str;
 
 // The longest script that the program takes.
 const LONGEST: usize = 16384;
@@ -41,35 +41,39 @@ fn cause(n: u8) -> char
     char::from_digit(u32::from(n), 9).unwrap_or('?')
 }
 
-// Appends a byte in two hexadecimal digits. Each text needs another amount of room, so the clause asks for it as the library's `push` does.
-#[tactic(auto, using(std::proofs::lemmas::Str::encode_ascii))]
-fn push_byte(line: &mut ArrayString<14>, byte: u8)
-    requires { array_string_len line.old + 2 ≤ 14 }
-    ensures { line.new.bytes ≡ line.old.bytes ++ (hex_digit (byte / 16) ∷ hex_digit (byte % 16) ∷ []) }
+// The bytes of a record's line, with its newline, which are all ASCII. They are made as an array: a text that takes one character after another costs a line
+// twice the time.
+#[inline]
+fn line_bytes(bytes: [u8; RECORD]) -> [u8; 14]
+    ensures { result ≡ first_line bytes }
 {
-    line.push(text::hex_digit(byte / 16));
-    line.push(text::hex_digit(byte % 16));
+    let [kind, answer, ssr, driven, interrupt, why] = bytes;
+    [
+        text::hex_digit(kind) as u8,
+        b' ',
+        text::hex_digit(answer / 16) as u8,
+        text::hex_digit(answer % 16) as u8,
+        b' ',
+        text::hex_digit(ssr / 16) as u8,
+        text::hex_digit(ssr % 16) as u8,
+        b' ',
+        level(driven) as u8,
+        b' ',
+        bit(interrupt) as u8,
+        b' ',
+        cause(why) as u8,
+        b'\n',
+    ]
 }
 
 // The line of a record, with its newline.
-#[tactic(auto, using(std::proofs::lemmas::Str::encode_ascii))]
+#[inline]
 pub fn record_line(bytes: [u8; RECORD]) -> ArrayString<14>
     ensures { result.bytes ≡ first_line bytes }
 {
-    let [kind, answer, ssr, driven, interrupt, why] = bytes;
+    let text = line_bytes(bytes);
     let mut line = ArrayString::new();
-    line.push(text::hex_digit(kind));
-    line.push(' ');
-    push_byte(&mut line, answer);
-    line.push(' ');
-    push_byte(&mut line, ssr);
-    line.push(' ');
-    line.push(level(driven));
-    line.push(' ');
-    line.push(bit(interrupt));
-    line.push(' ');
-    line.push(cause(why));
-    line.push('\n');
+    line.push_str(unsafe { str::from_utf8_unchecked(&text) });
     line
 }
 
