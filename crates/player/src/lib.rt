@@ -159,7 +159,15 @@ pub fn end_offset(end: Result<(), Refused>) -> usize
 fn play_on(tested: Tested, script: &[u8], log: &mut [u8]) -> Played
     ensures { ran result log.new ≡ play_on tested.sci script.now log.old }
 {
-    let mut run = Progress { tested, length: 0 };
+    // In two pieces, here and below: a copy of the whole state would be a call of C's memcpy, and the archive for C needs no library.
+    let mut run = Progress {
+        tested: Tested {
+            sci: Sci::default(),
+        },
+        length: 0,
+    };
+    run.tested.sci.port = tested.sci.port;
+    run.tested.sci.baud = tested.sci.baud;
     let mut at: usize = 0;
     let mut used: usize = 0;
     // No `for`: how far a turn moves on only the command that it reads tells.
@@ -167,7 +175,7 @@ fn play_on(tested: Tested, script: &[u8], log: &mut [u8]) -> Played
         match step(&mut run, script, at, &mut log[used..]) {
             Err(reason) => {
                 return Played {
-                    sci: run.tested.sci,
+                    sci: Sci { ..run.tested.sci },
                     length: run.length,
                     end: Err(Refused { reason, offset: at }),
                     used,
@@ -180,7 +188,7 @@ fn play_on(tested: Tested, script: &[u8], log: &mut [u8]) -> Played
         }
     }
     Played {
-        sci: run.tested.sci,
+        sci: Sci { ..run.tested.sci },
         length: run.length,
         end: Ok(()),
         used,
@@ -197,7 +205,7 @@ pub fn play(sci: Sci, script: &[u8], log: &mut [u8]) -> Played
         return play_on(Tested { sci }, script, log);
     }
     Played {
-        sci,
+        sci: Sci { ..sci },
         length: 0,
         end: Err(Refused {
             reason: Reason::Call(Refusal::OfPort(port::Refusal::State)),
