@@ -258,10 +258,18 @@ deadline_cause p left zero r x l h e = absurd (omega (arith, (deadline_bounds p 
 deadline_cause p left (suc zero) r x l h e = sym (one_cause p r (omega (arith, l, h)) x)
 deadline_cause p left (suc (suc i)) r x l h e = sym (skip_cause (suc i) p r (omega (arith, h, l)) x (deadline_still p (left + 1) i (omega arith) e))
 
-pub skip_deadline : (p : Port) (left k : ℕ) → Ready p.half p → external p ≡ false → k ≤ left → p.half + left ≤ limit → k ≡ deadline (left + 1) p → advance (counted_by k p) ≡ halves k p
-skip_deadline p left zero r x l h e = absurd (omega (arith, (deadline_bounds p (left + 1) zero (omega arith) e).0))
+-- The halves up to the next one that may do more than count, counted at once, and then the work of that one.
+pub skip_deadline : (p : Port) (left k : ℕ) → Ready p.half p → external p ≡ false → 1 ≤ left → p.half + left ≤ limit → k ≡ deadline left p → advance (counted_by k p) ≡ halves k p
+skip_deadline p left zero r x l h e = absurd (omega (arith, (deadline_bounds p left zero l e).0))
 skip_deadline p left (suc zero) r x l h e = sym (one_half p r (omega (arith, l, h)) x)
-skip_deadline p left (suc (suc i)) r x l h e = sym (skip (suc i) p r (omega (arith, h, l)) x (deadline_still p (left + 1) i (omega arith) e))
+skip_deadline p left (suc (suc i)) r x l h e =
+    sym (skip (suc i) p r (omega (arith, h, (deadline_bounds p left (suc (suc i)) l e).1)) x (deadline_still p left i l e))
+
+-- likewise where the next one is looked for one half further than they go, as `edges` does
+pub skip_planned : (p : Port) (left k : ℕ) → Ready p.half p → external p ≡ false → k ≤ left → p.half + left ≤ limit → k ≡ deadline (left + 1) p → advance (counted_by k p) ≡ halves k p
+skip_planned p left zero r x l h e = absurd (omega (arith, (deadline_bounds p (left + 1) zero (omega arith) e).0))
+skip_planned p left (suc zero) r x l h e = sym (one_half p r (omega (arith, l, h)) x)
+skip_planned p left (suc (suc i)) r x l h e = sym (skip (suc i) p r (omega (arith, h, l)) x (deadline_still p (left + 1) i (omega arith) e))
 
 -- SCR is kept, so a port on the internal clock stays there
 abbrev Internal : Port → Type 0
@@ -407,7 +415,7 @@ module _ (pin : Option Bool) (p : Port) (left k : ℕ) (g : Goes pin left p) (e 
             ap (λ (m : ℕ). edges (Some level) m r) none ∙ d ∙ ap (edge_work (Some level)) (f ∙ ap (λ (m : ℕ). counted_by m p) all ∙ sym (one_counted p))
             ∙ sym (ap (λ (m : ℕ). edges (Some level) m p) one)
         go None h plan d =
-            ap (halves (left - k)) (d ∙ ap advance f ∙ skip_deadline p left k g.0 h l g.1 plan) ∙ sym (halves_add k (left - k) p)
+            ap (halves (left - k)) (d ∙ ap advance f ∙ skip_planned p left k g.0 h l g.1 plan) ∙ sym (halves_add k (left - k) p)
             ∙ ap (λ (m : ℕ). halves m p) (omega (arith, l))
 
     -- and of their causes
@@ -427,5 +435,5 @@ module _ (pin : Option Bool) (p : Port) (left k : ℕ) (g : Goes pin left p) (e 
             ∙ sym (ap (λ (m : ℕ). edges_cause (Some level) m p) one)
         go None h plan d =
             ap₂ followed_by (ap advance_cause f ∙ deadline_cause p left k g.0 h l g.1 plan)
-            (ap (halves_cause (left - k)) (d ∙ ap advance f ∙ skip_deadline p left k g.0 h l g.1 plan))
+            (ap (halves_cause (left - k)) (d ∙ ap advance f ∙ skip_planned p left k g.0 h l g.1 plan))
             ∙ sym (halves_cause_add k (left - k) p) ∙ ap (λ (m : ℕ). halves_cause m p) (omega (arith, l))

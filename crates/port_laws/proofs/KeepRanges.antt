@@ -217,7 +217,7 @@ module _ (p : Port) (k : InRange p) where
       both_arms InRange (eqb a 0xff9c) _ _ (in_flags p k p.ssr p.ssr k.ssr< k.ssr<)
       (both_arms InRange (eqb a 0xff9d) _ p (in_flags p k (bit_and p.ssr 0xbf) (bit_and p.seen 0xbf) (and_byte p.ssr 0xbf k.ssr<) (and_byte p.seen 0xbf k.seen<)) k)
 
-  -- bytes that a write stores, with what it is_some and with the flags after it
+  -- bytes that a write stores, with what it holds and with the flags after it
   in_stored : (smr brr scr tdr ssr seen : ℕ) (held : Option ℕ) → smr < 256 → brr < 256 → scr < 256 → tdr < 256 → ssr < 256 → seen < 256 → HeldInRange held
       → Ranges smr brr scr tdr ssr p.rdr seen held p.rx p.transmitted p.received
   in_stored smr brr scr tdr ssr seen held e1 e2 e3 e4 e5 e6 e7 =

@@ -1,4 +1,4 @@
--- The field test is kept: the sender's part. Its state, read as facts against a half count h, is_some after each of the sender's steps.
+-- The field test is kept: the sender's part. Its state, read as facts against a half count h, holds after each of the sender's steps.
 -- Assumes nothing.
 use Rattle.std.specs.Prelude.{Option, None, Some, is_some}
 use mathlib.Core.Path.{◌≡◌, refl, sym, subst}

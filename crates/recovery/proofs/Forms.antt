@@ -263,7 +263,7 @@ module _ (Q : Said) (k : Kept Q) where
       Stores : Answer → Type 0
       Stores r = ((a v : ℕ) → c ≡ Write a v → accepted r ≡ true → Of (stored a v p)) → OfAfter r
 
--- ---- with RE clear the receiver is_some no word
+-- ---- with RE clear the receiver holds no word
 abbrev EmptyIfOff : Said
 EmptyIfOff f on x = on ≡ false → x ≡ None
 

@@ -1,4 +1,4 @@
--- The bound is_some of every state that a fresh port comes to.
+-- The bound holds of every state that a fresh port comes to.
 -- Assumes nothing.
 use Rattle.std.specs.Prelude.{is_some}
 use mathlib.Core.Path.{◌≡◌, refl, sym, ap, ◌∙◌, subst}

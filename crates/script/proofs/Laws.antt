@@ -14,7 +14,7 @@ use borrow.Rule.Slice.PartMut.{put_mid}
 use mir.Syntax.{w8}
 use mir.Val.{Fits}
 use borrow.Author.Tests.{lt-ltb, le-ltb, ltb-false, eqb-false}
-use Rattle.branches.proofs.Branches.{or_left, or_right}
+use Rattle.branches.proofs.Branches.{or_left, or_right, either_way}
 use Rattle.script.specs.declared.Fault.TheVariants.{Number as NotANumber}
 use Rattle.std.proofs.Common.{Ok, Err}
 use Rattle.script.specs.Number.{Reads, finds, and_then, breaks, groups, with_group, number_at}
@@ -114,6 +114,18 @@ module _ (s : List ℕ) (at value scale more i : ℕ) (h : Reading s at value sc
             }
 
 -- ---- writing
+
+pub small : (k v : ℕ) → v < 128 → encode_in k v ≡ v ∷ []
+small zero v h = refl
+small (suc k) v h = rw (lt-ltb v 128 h)
+
+-- a number in at most k bytes after the first
+pub encode_short : (k v : ℕ) → length (encode_in k v) ≤ k + 1
+encode_short zero v = omega arith
+encode_short (suc k) v =
+    either_way (ltb v 128)
+    (λ t. rw t (omega arith))
+    (λ t. rw t (omega (arith, encode_short k (v / 128))))
 
 -- a number of more than one byte: its first byte, and the rest
 pub record Large (m v : ℕ) : Type 0 where
